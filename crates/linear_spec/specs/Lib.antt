@@ -1,0 +1,5 @@
+pub mod List
+pub mod ListLends
+pub mod Packet
+pub mod SymVecLends
+pub mod Symbols

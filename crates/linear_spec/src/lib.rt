@@ -1,0 +1,18 @@
+//! Lists, words, symbol vectors and packets: the plain data that every crate above speaks of.
+#![tactic(auto)]
+
+pub mod laws;
+mod list;
+mod packet;
+mod reply;
+mod sym_vec;
+mod words;
+
+pub use list::List;
+pub use packet::Packet;
+pub use reply::Reply;
+pub use sym_vec::SymVec;
+pub use words::Words;
+
+#[cfg(test)]
+mod tests;
