@@ -35,3 +35,8 @@ AreSymbols-symbols_of (x ∷ y ∷ bytes) fit =
     let high : x < 2 ^ 8 = All-head (λ byte. byte < 2 ^ 8) x (y ∷ bytes) fit in
     let low : y < 2 ^ 8 = All-head (λ byte. byte < 2 ^ 8) y bytes tail in
     All-cons (λ symbol. symbol < 2 ^ 16) (x * 256 + y) (symbols_of bytes) (omega arith) (AreSymbols-symbols_of bytes (All-tail (λ byte. byte < 2 ^ 8) y bytes tail))
+
+pub length-be_bytes_of : (symbols : List ℕ) → length (be_bytes_of symbols) ≡ 2 * length symbols
+unfolding be_bytes_of
+length-be_bytes_of [] = refl
+length-be_bytes_of (x ∷ xs) = omega (arith, length-be_bytes_of xs)

@@ -1,10 +1,11 @@
 //! Laws over the definitions alone: each is the contract of a function with an empty body.
-ghost use Rattle.std.specs.Prelude.{◌≡◌, ◌%◌, ℕ, List, length};
+ghost use Rattle.std.specs.Prelude.{◌≡◌, ◌*◌, ◌%◌, ℕ, List, length};
 ghost use Rattle.linear_spec.specs.Symbols.{AreBytes, AreSymbols, be_bytes_of, symbols_of};
 
 /// Symbols and their bytes determine each other.
 pub fn bytes_spell_symbols()
     ensures symbols { (symbols : List ℕ) → AreSymbols symbols → symbols_of (be_bytes_of symbols) ≡ symbols }
     ensures bytes { (bytes : List ℕ) → AreBytes bytes → length bytes % 2 ≡ 0 → be_bytes_of (symbols_of bytes) ≡ bytes }
+    ensures length { (symbols : List ℕ) → length (be_bytes_of symbols) ≡ 2 * length symbols }
     ensures are_symbols { (bytes : List ℕ) → AreBytes bytes → AreSymbols (symbols_of bytes) }
 {}
