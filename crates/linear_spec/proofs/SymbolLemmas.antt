@@ -40,3 +40,9 @@ pub length-be_bytes_of : (symbols : List ℕ) → length (be_bytes_of symbols) �
 unfolding be_bytes_of
 length-be_bytes_of [] = refl
 length-be_bytes_of (x ∷ xs) = omega (arith, length-be_bytes_of xs)
+
+pub length-symbols_of : (bytes : List ℕ) → length (symbols_of bytes) ≡ length bytes / 2
+unfolding symbols_of
+length-symbols_of [] = refl
+length-symbols_of (x ∷ []) = refl
+length-symbols_of (x ∷ y ∷ bytes) = omega (arith, length-symbols_of bytes)

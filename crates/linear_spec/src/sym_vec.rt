@@ -1,10 +1,10 @@
-ghost use Rattle.std.specs.Prelude.{◌≡◌, ◌++◌, length, replicate, IfOk, OnOk, OnErr};
+ghost use Rattle.std.specs.Prelude.{◌≡◌, ◌++◌, ◌/◌, ◌%◌, length, replicate, IfOk, OnOk, OnErr};
 ghost use Rattle.std.specs.Borrow.{sem};
-ghost use Rattle.linear_spec.specs.Symbols.{be_bytes_of, symbols_of};
+ghost use Rattle.linear_spec.specs.Symbols.{AreSymbols, be_bytes_of, symbols_of};
 
 use crate::List;
 use gf16::Memory;
-use std::alloc::Global;
+use std::alloc::{AllocError, Global};
 use std::marker::Model;
 
 /// A vector of symbols of the field, which contracts see as their list.
@@ -41,16 +41,13 @@ impl SymVec {
     }
 
     /// The symbols that bytes spell, two bytes each, the high one first. A last odd byte is left out.
-    #[tactic(auto, unfolding(crate::specs::Symbols::symbols_of))]
     pub fn from_be_bytes(alloc: Global, bytes: &[u8]) -> Result<SymVec, Memory>
-        ensures { IfOk result (λ v. v ≡ symbols_of bytes.now) }
+        ensures symbols { IfOk result (λ v. v ≡ symbols_of bytes.now) }
+        ensures count { IfOk result (λ v. length v ≡ length bytes.now / 2) }
+        ensures are_symbols { IfOk result AreSymbols }
+        ensures spelled { length bytes.now % 2 ≡ 0 → IfOk result (λ v. be_bytes_of v ≡ bytes.now) }
     {
-        let mut symbols = Vec::with_capacity(alloc, bytes.len() / 2)?;
-        let mut rest = bytes;
-        while let [high, low, after @ ..] = rest {
-            symbols.push(u16::from_be_bytes([*high, *low]))?;
-            rest = after;
-        }
+        let symbols = symbols_in(alloc, bytes)?;
         Ok(SymVec { symbols })
     }
 
@@ -91,4 +88,17 @@ impl SymVec {
     {
         self.symbols.as_mut_slice()
     }
+}
+
+#[tactic(auto, unfolding(crate::specs::Symbols::symbols_of))]
+fn symbols_in(alloc: Global, bytes: &[u8]) -> Result<Vec<u16>, AllocError>
+    ensures { IfOk result (λ symbols. symbols.items ≡ symbols_of bytes.now) }
+{
+    let mut symbols = Vec::with_capacity(alloc, bytes.len() / 2)?;
+    let mut rest = bytes;
+    while let [high, low, after @ ..] = rest {
+        symbols.push(u16::from_be_bytes([*high, *low]))?;
+        rest = after;
+    }
+    Ok(symbols)
 }

@@ -1,6 +1,6 @@
 use Rattle.std.proofs.Common.{◌≡◌, ◌++◌, length}
 use Rattle.linear_spec.specs.Symbols.{symbols_of}
-use Rattle.linear_spec.proofs.sym_vec.SymVec.from_be_bytes.Given as goal
+use Rattle.linear_spec.proofs.sym_vec.symbols_in.Given as goal
 
 -- the symbols so far and those of the rest are all
 abbrev pub invariant-loop-rest : goal.invariant-loop-rest
