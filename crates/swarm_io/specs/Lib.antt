@@ -1,0 +1,4 @@
+pub mod Counts
+pub mod Moved
+pub mod Steady
+pub mod WriteError

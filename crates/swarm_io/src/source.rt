@@ -1,0 +1,24 @@
+ghost use Rattle.std.specs.Prelude.{◌<◌, ◌≤◌, ℕ, List, Option, length, IfOk, OnErr};
+ghost use Rattle.std.specs.Io.KnownBytes.{ReadConsumes};
+ghost use Rattle.swarm_io.specs.Counts.{Rose};
+
+/// A read failed.
+#[derive(Clone, Copy, Debug, PartialEq, Eq)]
+pub struct Failed;
+
+/// Where bytes come from.
+pub trait Source {
+    /// The bytes that are left, where the source tells them.
+    ghost remaining: { Self → Option (List ℕ) };
+
+    /// How often a read has failed.
+    ghost faults: { Self → ℕ };
+
+    /// Moves the next bytes into the front of `buf`, and answers how many: 0 is the end of the input.
+    fn read(&mut self, buf: &mut [u8]) -> Result<usize, Failed>
+        requires { 0 < length buf.old }
+        ensures bound { IfOk result (λ n. n ≤ length buf.old) }
+        ensures bytes { ReadConsumes (remaining self.old) (remaining self.new) result buf.new }
+        ensures cause { OnErr result (Rose (faults self.old) (faults self.new)) }
+        ensures faults { faults self.old ≤ faults self.new };
+}
