@@ -3,3 +3,4 @@ pub mod ListLends
 pub mod Packet
 pub mod SymVecLends
 pub mod Symbols
+pub mod UnitVector
