@@ -1,6 +1,9 @@
 //! The field of symbols, and the error that every crate shares.
 #![tactic(auto)]
 
+mod field;
+pub mod laws;
 mod memory;
 
+pub use field::Gf;
 pub use memory::Memory;

@@ -1,0 +1,4 @@
+pub mod Totals
+pub mod TimesX
+pub mod Basis
+pub mod Product
