@@ -4,11 +4,11 @@ use Rattle.std.proofs.Common.{◌≡◌, ℕ, zero, suc, ◌+◌, ◌*◌, ◌/�
 use Rattle.std.specs.Int.{bit_at}
 use Rattle.std.specs.List.{range_with_len}
 use Rattle.std.proofs.lemmas.Nat.{shr-shr}
-use Rattle.std.proofs.lemmas.Nat.Bits.{bit_at-lt}
+use Rattle.std.proofs.lemmas.Nat.Bits.{bit_at_cat_low}
 use lib.Bits.{xor_comm, xor_shifted}
 use Rattle.gf16.specs.Field.{IsSymbol, bit_places}
-use Rattle.gf16.proofs.Totals.{IsAdditive, total_where, total_where-cons, additive-total_where}
-use Rattle.gf16.proofs.TimesX.{where_set}
+use Rattle.gf16.proofs.Totals.{IsAdditive, total_where, total_where-cons, total_where-tests, additive-total_where}
+use Rattle.gf16.proofs.TimesX.{where_set, where_set-bit_xor}
 
 -- whether bit i of b is set
 abbrev pub has_bit : ℕ → ℕ → Bool
@@ -65,3 +65,26 @@ same_from_powers f g by_f by_g agree b h =
     ∙ total_where-same (has_bit b) (λ i. f (2 ^ i)) (λ i. g (2 ^ i)) bit_places agree
     ∙ sym (additive-total_where g (λ i. 2 ^ i) (λ i. g (2 ^ i)) (has_bit b) by_g (λ i. refl) bit_places)
     ∙ ap g (powers_of_symbol b h)
+
+-- tests that agree below n have one sum over the numbers below n
+total_where-tests_below : (p q : ℕ → Bool) (f : ℕ → ℕ) (n s : ℕ) → ((i : ℕ) → i < s + n → p i ≡ q i) → total_where p f (range_with_len s n) ≡ total_where q f (range_with_len s n)
+total_where-tests_below p q f zero s same = refl
+total_where-tests_below p q f (suc n) s same =
+    let rest = total_where-tests_below p q f n (s + 1) (λ i h. same i (omega arith)) in
+    total_where-cons p f s (range_with_len (s + 1) n)
+    ∙ ap₂ bit_xor (ap (λ t. cond t (f s) 0) (same s (omega arith))) rest
+    ∙ sym (total_where-cons q f s (range_with_len (s + 1) n))
+
+bit_at-low : (b i : ℕ) → i < 16 → bit_at (b % 2 ^ 16) i ≡ bit_at b i
+bit_at-low b i h =
+    let split : b ≡ b / 2 ^ 16 * 2 ^ 16 + b % 2 ^ 16 = omega arith in
+    sym (ap (λ n. bit_at n i) split ∙ bit_at_cat_low (b / 2 ^ 16) 16 (b % 2 ^ 16) i h)
+
+-- a sum over the set bits of a number depends on its low 16 bits alone
+pub total_where-low : (b : ℕ) (f : ℕ → ℕ) → total_where (has_bit (b % 2 ^ 16)) f bit_places ≡ total_where (has_bit b) f bit_places
+unfolding bit_places
+total_where-low b f = total_where-tests_below (has_bit (b % 2 ^ 16)) (has_bit b) f 16 0 (λ i h. ap (λ d. eqb d 1) (bit_at-low b i (omega arith)))
+
+-- and it is additive in that number
+pub total_where-bits : (f : ℕ → ℕ) → IsAdditive (λ b. total_where (has_bit b) f bit_places)
+total_where-bits f b c = total_where-tests (has_bit b) (has_bit c) (has_bit (bit_xor b c)) f (λ i v. where_set-bit_xor b c i v) bit_places

@@ -1,10 +1,10 @@
 -- The product is additive in each factor, and any additive function that commutes with times x passes through it.
-use Rattle.std.proofs.Common.{◌≡◌, ℕ, ◌*◌, ◌%◌, ◌^◌, ◌<◌, Bool, true, false, cond, eqb, List, map, bit_xor, refl, sym, ap, ap₂, subst, ◌∙◌, [], ◌∷◌, lit<}
+use Rattle.std.proofs.Common.{◌≡◌, ℕ, ◌*◌, ◌%◌, ◌^◌, ◌<◌, Bool, true, false, cond, eqb, List, map, bit_xor, refl, sym, ap, ap₂, subst, ◌∙◌, [], ◌∷◌, lit<, arith}
 use lib.Bits.{xor_zero_r, xor_lt}
 use Rattle.gf16.specs.Field.{IsSymbol, times_x, times_x_power, bit_places, set_bits, product_of, total_of}
-use Rattle.gf16.proofs.Totals.{IsAdditive, additive-zero, total_where-cons, total_where, additive-total_where, total_where-xor, total_where-tests}
-use Rattle.gf16.proofs.TimesX.{times_x-additive, times_x_power-additive, times_x_power_is_symbol, along_power, where_set, where_set-bit_xor, low-additive, times_x-low}
-use Rattle.gf16.proofs.Basis.{has_bit, total_where-same, powers_of_symbol}
+use Rattle.gf16.proofs.Totals.{IsAdditive, additive-zero, total_where-cons, total_where, additive-total_where, total_where-xor}
+use Rattle.gf16.proofs.TimesX.{times_x-additive, times_x_power-additive, times_x_power_is_symbol, along_power, low-additive, times_x-low}
+use Rattle.gf16.proofs.Basis.{has_bit, total_where-same, total_where-low, total_where-bits, powers_of_symbol}
 
 pub product_is : (a b : ℕ) → product_of a b ≡ total_where (has_bit b) (times_x_power a) bit_places
 unfolding product_of set_bits
@@ -20,7 +20,7 @@ along_product f additive commutes a b =
 pub product-additive_right : (a : ℕ) → IsAdditive (product_of a)
 product-additive_right a b c =
     product_is a (bit_xor b c)
-    ∙ total_where-tests (has_bit b) (has_bit c) (has_bit (bit_xor b c)) (times_x_power a) (λ i v. where_set-bit_xor b c i v) bit_places
+    ∙ total_where-bits (times_x_power a) b c
     ∙ ap₂ bit_xor (sym (product_is a b)) (sym (product_is a c))
 
 pub product-additive_left : (c : ℕ) → IsAdditive (λ a. product_of a c)
@@ -85,12 +85,23 @@ pub product_comm : (a b : ℕ) → IsSymbol a → IsSymbol b → product_of a b 
 product_comm a b by_a by_b =
     ap (λ c. product_of c b) (sym (product-one_left a by_a)) ∙ product_exchange 1 a b ∙ ap (λ c. product_of c a) (product-one_left b by_b)
 
--- a product's low 16 bits depend on the left factor's alone, and a right factor counts by its low 16 bits alone
+-- a right factor counts by its low 16 bits alone
+product-low_right : (a b : ℕ) → product_of a (b % 2 ^ 16) ≡ product_of a b
+product-low_right a b = product_is a (b % 2 ^ 16) ∙ total_where-low b (times_x_power a) ∙ sym (product_is a b)
+
+-- a product's low 16 bits are those of the left factor's low 16 bits
 product-low_left : (a b : ℕ) → product_of a b % 2 ^ 16 ≡ product_of (a % 2 ^ 16) b
 product-low_left = along_product (λ a. a % 2 ^ 16) low-additive times_x-low
 
-pub product_assoc_symbols : (a b c : ℕ) → IsSymbol a → IsSymbol b → product_of (product_of a b) c ≡ product_of a (product_of b c)
-product_assoc_symbols a b c by_a by_b =
+assoc_of_symbols : (a b c : ℕ) → IsSymbol a → IsSymbol b → product_of (product_of a b) c ≡ product_of a (product_of b c)
+assoc_of_symbols a b c by_a by_b =
     ap (λ d. product_of d c) (product_comm a b by_a by_b)
     ∙ product_exchange b a c
     ∙ product_comm (product_of b c) a (product_is_symbol b c by_b) by_a
+
+pub product_assoc : (a b c : ℕ) → IsSymbol a → product_of (product_of a b) c ≡ product_of a (product_of b c)
+product_assoc a b c by_a =
+    ap (λ d. product_of d c) (sym (product-low_right a b))
+    ∙ assoc_of_symbols a (b % 2 ^ 16) c by_a (omega arith)
+    ∙ ap (product_of a) (sym (product-low_left b c))
+    ∙ product-low_right a (product_of b c)
