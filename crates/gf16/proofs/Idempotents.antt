@@ -57,9 +57,9 @@ unfolding square_plus without_lowest
 zero_or_one a h idempotent =
     let low : a % 2 ^ 16 ≡ a = mod-eq_of_lt h in
     let nothing : square_plus a ≡ 0 =
-        ap (λ v. bit_xor (product_of v v) v) low ∙ ap (λ v. bit_xor v a) idempotent ∙ xor_self a in
+    ap (λ v. bit_xor (product_of v v) v) low ∙ ap (λ v. bit_xor v a) idempotent ∙ xor_self a in
     let e : bit_xor a (a % 2) ≡ 0 =
-        sym (given_back-square_plus a h) ∙ ap given_back nothing ∙ additive-zero given_back given_back-additive in
+    sym (given_back-square_plus a h) ∙ ap given_back nothing ∙ additive-zero given_back given_back-additive in
     small a (same_from_sum a (a % 2) e)
   where
     small : (n : ℕ) → n ≡ n % 2 → (n ≡ 0) ⊎ (n ≡ 1)

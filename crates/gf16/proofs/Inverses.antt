@@ -64,5 +64,5 @@ one_inverse a h some =
       inverse = inverse_of a;
       is_symbol = squares_product_is_symbol a 15;
       is_inverse = one;
-      only = λ b by_b e. product_cancel a b (inverse_of a) h by_b (squares_product_is_symbol a 15) some (e ∙ sym one)
+      only = λ b by_b e. product_cancel a b (inverse_of a) h by_b (squares_product_is_symbol a 15) some (e ∙ sym one);
     }

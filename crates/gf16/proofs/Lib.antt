@@ -5,3 +5,5 @@ pub mod Product
 pub mod Squares
 pub mod Idempotents
 pub mod Inverses
+pub mod Steps
+pub mod FieldRecord

@@ -17,14 +17,14 @@ along_product f additive commutes a b =
     ∙ additive-total_where f (times_x_power a) (times_x_power (f a)) (has_bit b) additive (along_power f commutes a) bit_places
     ∙ sym (product_is (f a) b)
 
-pub product-additive_right : (a : ℕ) → IsAdditive (product_of a)
-product-additive_right a b c =
+pub product_distributes : (a : ℕ) → IsAdditive (product_of a)
+product_distributes a b c =
     product_is a (bit_xor b c)
     ∙ total_where-bits (times_x_power a) b c
     ∙ ap₂ bit_xor (sym (product_is a b)) (sym (product_is a c))
 
-pub product-additive_left : (c : ℕ) → IsAdditive (λ a. product_of a c)
-product-additive_left c a b =
+pub product_distributes_left : (c : ℕ) → IsAdditive (λ a. product_of a c)
+product_distributes_left c a b =
     product_is (bit_xor a b) c
     ∙ total_where-xor (has_bit c) (times_x_power a) (times_x_power b) (times_x_power (bit_xor a b)) (λ i. times_x_power-additive i a b) bit_places
     ∙ ap₂ bit_xor (sym (product_is a c)) (sym (product_is b c))
@@ -36,10 +36,10 @@ times_x-product = along_product times_x times_x-additive (λ a. refl)
 -- ---- products by 0, 1 and x
 
 pub product-zero_right : (a : ℕ) → product_of a 0 ≡ 0
-product-zero_right a = additive-zero (product_of a) (product-additive_right a)
+product-zero_right a = additive-zero (product_of a) (product_distributes a)
 
 pub product-zero_left : (a : ℕ) → product_of 0 a ≡ 0
-product-zero_left a = additive-zero (λ b. product_of b a) (product-additive_left a)
+product-zero_left a = additive-zero (λ b. product_of b a) (product_distributes_left a)
 
 pub product-one_right : (a : ℕ) → product_of a 1 ≡ a
 unfolding product_of set_bits bit_places times_x_power
@@ -79,7 +79,7 @@ product_is_symbol a b h =
 
 -- two right factors may change places
 pub product_exchange : (a b c : ℕ) → product_of (product_of a b) c ≡ product_of (product_of a c) b
-product_exchange a b c = along_product (λ d. product_of d c) (product-additive_left c) (λ d. sym (times_x-product d c)) a b
+product_exchange a b c = along_product (λ d. product_of d c) (product_distributes_left c) (λ d. sym (times_x-product d c)) a b
 
 pub product_comm : (a b : ℕ) → IsSymbol a → IsSymbol b → product_of a b ≡ product_of b a
 product_comm a b by_a by_b =

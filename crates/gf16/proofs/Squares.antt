@@ -4,7 +4,7 @@ use lib.Bits.{xor_assoc, xor_self, xor_mod, xor_lt}
 use Rattle.gf16.specs.Field.{IsSymbol, times_x, times_x_power, bit_places, set_bits, product_of}
 use Rattle.gf16.proofs.Totals.{IsAdditive}
 use Rattle.gf16.proofs.TimesX.{times_x-low}
-use Rattle.gf16.proofs.Product.{along_product, product-additive_left, product-additive_right, product-x_right, product-one_left, product_is_symbol, product_comm, product_exchange, product_assoc}
+use Rattle.gf16.proofs.Product.{along_product, product_distributes_left, product_distributes, product-x_right, product-one_left, product_is_symbol, product_comm, product_exchange, product_assoc}
 
 pub xor_cancel : (a b : ℕ) → bit_xor a (bit_xor a b) ≡ b
 xor_cancel a b = sym (xor_assoc a a b) ∙ ap (λ c. bit_xor c b) (xor_self a)
@@ -14,9 +14,9 @@ pub square_of_sum : (a b : ℕ) → IsSymbol a → IsSymbol b → product_of (bi
 square_of_sum a b by_a by_b =
     let mixed = product_of a b in
     let right : product_of b (bit_xor a b) ≡ bit_xor mixed (product_of b b) =
-        product-additive_right b a b ∙ ap (λ c. bit_xor c (product_of b b)) (product_comm b a by_b by_a) in
-    product-additive_left (bit_xor a b) a b
-    ∙ ap₂ bit_xor (product-additive_right a a b) right
+    product_distributes b a b ∙ ap (λ c. bit_xor c (product_of b b)) (product_comm b a by_b by_a) in
+    product_distributes_left (bit_xor a b) a b
+    ∙ ap₂ bit_xor (product_distributes a a b) right
     ∙ xor_assoc (product_of a a) mixed (bit_xor mixed (product_of b b))
     ∙ ap (bit_xor (product_of a a)) (xor_cancel mixed (product_of b b))
 

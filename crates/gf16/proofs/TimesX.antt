@@ -72,8 +72,8 @@ times_x_is_symbol a h =
     ⊎_elim
     (λ below. let e = times_x_clear a below in omega arith)
     (λ above. let set : a / 2 ^ 15 ≡ 1 = omega arith in
-        let P : ℕ → Type 0 = IsSymbol in
-        subst P (sym (times_x_set a set)) (xor_lt 16 (a * 2 % 2 ^ 16) 0x100B (omega arith) (lit< tt)))
+    let P : ℕ → Type 0 = IsSymbol in
+    subst P (sym (times_x_set a set)) (xor_lt 16 (a * 2 % 2 ^ 16) 0x100B (omega arith) (lit< tt)))
     (cases_lt a (2 ^ 15))
 
 -- bits from 16 up stay there
@@ -122,3 +122,5 @@ pub times_x_power_is_symbol : (a i : ℕ) → IsSymbol a → IsSymbol (times_x_p
 unfolding times_x_power
 times_x_power_is_symbol a zero h = h
 times_x_power_is_symbol a (suc i) h = times_x_is_symbol (times_x_power a i) (times_x_power_is_symbol a i h)
+
+pub ruleset times_x_steps = (times_x_set, times_x_clear)

@@ -18,7 +18,7 @@ additive-compose f g by_f by_g a b = ap f (by_g a b) ∙ by_f (g a) (g b)
 pub xor_exchange : (a b c d : ℕ) → bit_xor (bit_xor a b) (bit_xor c d) ≡ bit_xor (bit_xor a c) (bit_xor b d)
 xor_exchange a b c d =
     let inner : bit_xor b (bit_xor c d) ≡ bit_xor c (bit_xor b d) =
-        sym (xor_assoc b c d) ∙ ap (λ x. bit_xor x d) (xor_comm b c) ∙ xor_assoc c b d in
+    sym (xor_assoc b c d) ∙ ap (λ x. bit_xor x d) (xor_comm b c) ∙ xor_assoc c b d in
     xor_assoc a b (bit_xor c d) ∙ ap (bit_xor a) inner ∙ sym (xor_assoc a c (bit_xor b d))
 
 -- ---- sums over the elements that pass a test

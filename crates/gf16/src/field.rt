@@ -17,6 +17,7 @@ impl Gf {
     }
 
     /// The product modulo x^16 + x^12 + x^3 + x + 1.
+    #[tactic(auto, using(crate::proofs::Steps::product_steps))]
     pub fn mul(self, other: Gf) -> Gf
         ensures { result.0 ≡ product_of self.0 other.0 }
     {
@@ -32,6 +33,7 @@ impl Gf {
     }
 }
 
+#[tactic(auto, using(crate::proofs::TimesX::times_x_steps))]
 fn times_x(symbol: u16) -> u16
     ensures { result ≡ times_x symbol }
 {
