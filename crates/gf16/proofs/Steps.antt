@@ -4,11 +4,13 @@ use Rattle.std.specs.Int.{bit_at}
 use Rattle.std.specs.List.{range_with_len}
 use Rattle.std.proofs.lemmas.Nat.Bits.{shr_and_one}
 use lib.Bits.{xor_assoc, xor_comm, xor_zero_r}
-use Rattle.gf16.specs.Field.{times_x, times_x_power, bit_places, product_of}
+use Rattle.gf16.specs.Field.{IsSymbol, times_x, times_x_power, bit_places, product_of}
 use Rattle.gf16.proofs.Totals.{total_where, total_where-cons}
 use Rattle.gf16.proofs.TimesX.{times_x_power-suc}
 use Rattle.gf16.proofs.Basis.{has_bit}
 use Rattle.gf16.proofs.Product.{product_is}
+use Rattle.gf16.proofs.Squares.{squared}
+use Rattle.gf16.proofs.Inverses.{squares_product, product-inverse}
 
 -- one more number at the end
 total_where-range : (p : ℕ → Bool) (f : ℕ → ℕ) (n s : ℕ) → total_where p f (range_with_len s (suc n)) ≡ bit_xor (total_where p f (range_with_len s n)) (cond (p (s + n)) (f (s + n)) 0)
@@ -63,3 +65,26 @@ pub power-next : (a n : ℕ) → times_x_power a (n + 1) ≡ times_x (times_x_po
 power-next a n = ap (times_x_power a) (add-one n) ∙ times_x_power-suc a n
 
 pub ruleset product_steps = (product_below-zero, product_below-done, product_below-set, product_below-clear, power-zero, power-next)
+
+-- ---- the inverse
+
+pub squared-zero : (a : ℕ) → squared a 0 ≡ a
+unfolding squared
+squared-zero a = refl
+
+pub squared-next : (a n : ℕ) → squared a (n + 1) ≡ product_of (squared a n) (squared a n)
+unfolding squared
+squared-next a n = ap (squared a) (add-one n)
+
+pub squares_product-zero : (a : ℕ) → squares_product a 0 ≡ 1
+unfolding squares_product
+squares_product-zero a = refl
+
+pub squares_product-next : (a n : ℕ) → squares_product a (n + 1) ≡ product_of (squares_product a n) (squared a (n + 1))
+unfolding squares_product
+squares_product-next a n = ap (squares_product a) (add-one n) ∙ ap (λ k. product_of (squares_product a n) (squared a k)) (sym (add-one n))
+
+pub squares_product-done : (a n : ℕ) → n ≡ 15 → IsSymbol a → a ≢ 0 → product_of a (squares_product a n) ≡ 1
+squares_product-done a n e h some = ap (λ k. product_of a (squares_product a k)) e ∙ product-inverse a h some
+
+pub ruleset inverse_steps = (squared-zero, squared-next, squares_product-zero, squares_product-next, squares_product-done)

@@ -31,6 +31,25 @@ impl Gf {
         }
         Gf(sum)
     }
+
+    /// The inverse, which 0 alone lacks.
+    #[tactic(auto, using(crate::proofs::Steps::inverse_steps))]
+    pub fn inv(self) -> Option<Gf>
+        ensures none { IsNone result ↔ (self.0 ≡ 0) }
+        ensures value { IfSome result (λ inverse. product_of self.0 inverse.0 ≡ 1) }
+    {
+        if self.0 == 0 {
+            return None;
+        }
+        // A symbol to the 2^16 is itself, so its inverse is its power 2^16 - 2 = 2 + 4 + .. + 2^15.
+        let mut square = self;
+        let mut inverse = Gf(1);
+        for _round in 0..15u32 {
+            square = square.mul(square);
+            inverse = inverse.mul(square);
+        }
+        Some(inverse)
+    }
 }
 
 #[tactic(auto, using(crate::proofs::TimesX::times_x_steps))]
