@@ -4,6 +4,8 @@
 mod field;
 pub mod laws;
 mod memory;
+#[cfg(test)]
+mod tests;
 
 pub use field::Gf;
 pub use memory::Memory;
