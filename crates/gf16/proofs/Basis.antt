@@ -1,6 +1,6 @@
 -- A symbol is the sum of the powers of two at its set bits, so an additive function is known by its values at the 16
 -- powers of two.
-use Rattle.std.proofs.Common.{◌≡◌, ℕ, zero, suc, ◌+◌, ◌*◌, ◌/◌, ◌%◌, ◌^◌, ◌<◌, ◌≤◌, Bool, true, false, cond, eqb, List, [], ◌∷◌, map, bit_xor, refl, sym, ap, ap₂, ◌∙◌, arith, pow-suc, pow_pos, div-one, mul-one, zero-mul, add-one, mul-le-mul_right}
+use Rattle.std.proofs.Common.{◌≡◌, ℕ, zero, suc, ◌+◌, ◌*◌, ◌/◌, ◌%◌, ◌^◌, ◌<◌, ◌≤◌, Bool, cond, eqb, List, [], ◌∷◌, map, bit_xor, refl, sym, ap, ap₂, ◌∙◌, arith, pow-suc, pow_pos, div-one, mul-one, zero-mul, add-one, mul-le-mul_right}
 use Rattle.std.specs.Int.{bit_at}
 use Rattle.std.specs.List.{range_with_len}
 use Rattle.std.proofs.lemmas.Nat.{shr-shr}

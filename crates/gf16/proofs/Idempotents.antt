@@ -1,5 +1,5 @@
 -- A symbol that is its own square is 0 or 1: from v² + v a linear map gives back v without its lowest bit.
-use Rattle.std.proofs.Common.{◌≡◌, ◌⊎◌, ℕ, zero, suc, ◌%◌, ◌^◌, ◌<◌, List, [], ◌∷◌, map, bit_xor, slice_index, refl, sym, ap, ap₂, ◌∙◌, inl, inr, mod-eq_of_lt, arith}
+use Rattle.std.proofs.Common.{◌≡◌, ◌⊎◌, ℕ, zero, suc, ◌%◌, ◌^◌, List, [], ◌∷◌, map, bit_xor, slice_index, refl, sym, ap, ◌∙◌, inl, inr, mod-eq_of_lt, arith}
 use lib.Bits.{xor_assoc, xor_self, xor_zero_r, xor_mod}
 use Rattle.gf16.specs.Field.{IsSymbol, times_x, times_x_power, bit_places, set_bits, product_of}
 use Rattle.gf16.proofs.Totals.{IsAdditive, additive-zero, total_where, xor_exchange}

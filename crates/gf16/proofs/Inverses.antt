@@ -1,9 +1,9 @@
 -- The inverse of a symbol that is not 0 is its power 2^16 - 2, the product of its squares of squares from the first to
 -- the fifteenth; and what follows from inverses.
-use Rattle.std.proofs.Common.{◌≡◌, ◌≢◌, ◌⊎◌, ℕ, zero, suc, ◌^◌, ◌<◌, refl, sym, ap, ap₂, ◌∙◌, inl, inr, ⊎_elim, lit<, arith}
+use Rattle.std.proofs.Common.{◌≡◌, ◌≢◌, ◌⊎◌, ℕ, zero, suc, refl, sym, ap, ◌∙◌, inl, inr, ⊎_elim, lit<, arith}
 use Rattle.gf16.specs.Field.{IsSymbol, product_of, HasOneInverse}
-use Rattle.gf16.proofs.Product.{product-one_right, product-one_left, product-zero_left, product-zero_right, product_is_symbol, product_exchange, product_assoc}
-use Rattle.gf16.proofs.Squares.{squared, squared_is_symbol, sixteen_squarings}
+use Rattle.gf16.proofs.Product.{product-one_right, product-one_left, product-zero_right, product_is_symbol, product_exchange, product_assoc}
+use Rattle.gf16.proofs.Squares.{squared, sixteen_squarings}
 use Rattle.gf16.proofs.Idempotents.{zero_or_one}
 
 -- the product of the first i squares: a to the 2 + 4 + .. + 2^i

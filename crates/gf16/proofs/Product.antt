@@ -1,7 +1,7 @@
 -- The product is additive in each factor, and any additive function that commutes with times x passes through it.
-use Rattle.std.proofs.Common.{◌≡◌, ℕ, ◌*◌, ◌%◌, ◌^◌, ◌<◌, Bool, true, false, cond, eqb, List, map, bit_xor, refl, sym, ap, ap₂, subst, ◌∙◌, [], ◌∷◌, lit<, arith}
+use Rattle.std.proofs.Common.{◌≡◌, ℕ, ◌%◌, ◌^◌, Bool, true, false, cond, List, map, bit_xor, refl, sym, ap, ap₂, subst, ◌∙◌, [], ◌∷◌, lit<, arith}
 use lib.Bits.{xor_zero_r, xor_lt}
-use Rattle.gf16.specs.Field.{IsSymbol, times_x, times_x_power, bit_places, set_bits, product_of, total_of}
+use Rattle.gf16.specs.Field.{IsSymbol, times_x, times_x_power, bit_places, set_bits, product_of}
 use Rattle.gf16.proofs.Totals.{IsAdditive, additive-zero, total_where-cons, total_where, additive-total_where, total_where-xor}
 use Rattle.gf16.proofs.TimesX.{times_x-additive, times_x_power-additive, times_x_power_is_symbol, along_power, low-additive, times_x-low}
 use Rattle.gf16.proofs.Basis.{has_bit, total_where-same, total_where-low, total_where-bits, powers_of_symbol}

@@ -1,6 +1,6 @@
 -- Squaring takes sums to sums and products to products, and 16 squarings give a symbol back.
-use Rattle.std.proofs.Common.{◌≡◌, ℕ, zero, suc, ◌%◌, ◌^◌, ◌<◌, bit_xor, refl, sym, ap, ap₂, ◌∙◌, mod-eq_of_lt, arith}
-use lib.Bits.{xor_assoc, xor_self, xor_mod, xor_lt}
+use Rattle.std.proofs.Common.{◌≡◌, ℕ, zero, suc, ◌%◌, ◌^◌, bit_xor, refl, sym, ap, ap₂, ◌∙◌, mod-eq_of_lt, arith}
+use lib.Bits.{xor_assoc, xor_self, xor_mod}
 use Rattle.gf16.specs.Field.{IsSymbol, times_x, times_x_power, bit_places, set_bits, product_of}
 use Rattle.gf16.proofs.Totals.{IsAdditive}
 use Rattle.gf16.proofs.TimesX.{times_x-low}

@@ -1,9 +1,9 @@
 -- What the loops of the product and of the inverse add at each step.
-use Rattle.std.proofs.Common.{◌≡◌, ◌≢◌, ℕ, zero, suc, ◌+◌, ◌/◌, ◌^◌, ◌<◌, Bool, true, false, cond, eqb, List, [], ◌∷◌, bit_and, bit_xor, refl, sym, ap, ap₂, ◌∙◌, add-zero, add-one, add-suc, zero-add, suc-add, eq-eqb, ne_eqb, arith}
+use Rattle.std.proofs.Common.{◌≡◌, ◌≢◌, ℕ, zero, suc, ◌+◌, ◌/◌, ◌^◌, Bool, true, false, cond, [], bit_and, bit_xor, refl, sym, ap, ◌∙◌, add-zero, add-one, zero-add, eq-eqb, ne_eqb, arith}
 use Rattle.std.specs.Int.{bit_at}
 use Rattle.std.specs.List.{range_with_len}
 use Rattle.std.proofs.lemmas.Nat.Bits.{shr_and_one}
-use lib.Bits.{xor_assoc, xor_comm, xor_zero_r}
+use lib.Bits.{xor_assoc, xor_zero_r}
 use Rattle.gf16.specs.Field.{IsSymbol, times_x, times_x_power, bit_places, product_of}
 use Rattle.gf16.proofs.Totals.{total_where, total_where-cons}
 use Rattle.gf16.proofs.TimesX.{times_x_power-suc}

@@ -5,7 +5,7 @@ use Rattle.std.specs.Int.{bit_at}
 use Rattle.std.proofs.lemmas.Nat.Bits.{bit_at_xor, bit_at-lt}
 use lib.Bits.{xor_self, xor_zero_r, xor_block, xor_mod, xor_lt, xor_shifted}
 use Rattle.gf16.specs.Field.{times_x, times_x_power, IsSymbol}
-use Rattle.gf16.proofs.Totals.{IsAdditive, additive-zero, additive-compose, xor_exchange}
+use Rattle.gf16.proofs.Totals.{IsAdditive, additive-zero, xor_exchange}
 
 -- v where a bit is set
 abbrev pub where_set : ℕ → ℕ → ℕ
