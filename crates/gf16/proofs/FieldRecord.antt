@@ -1,6 +1,6 @@
 -- The laws of the field as one record.
 use Rattle.std.proofs.Common.{refl}
-use lib.Bits.{xor_assoc, xor_comm, xor_self, xor_zero_r, xor_lt}
+use Rattle.std.specs.Int.Bits.{xor_assoc, xor_comm, xor_self, xor_zero_r, xor_lt}
 use Rattle.gf16.specs.Field.{IsField}
 use Rattle.gf16.proofs.Product.{product_is_symbol, product_assoc, product_comm, product_exchange, product_distributes_left, product_distributes, product-one_left, product-one_right, product-zero_left, product-zero_right}
 use Rattle.gf16.proofs.Inverses.{one_inverse, zero_factor, product_cancel}

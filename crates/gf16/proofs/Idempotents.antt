@@ -1,6 +1,6 @@
 -- A symbol that is its own square is 0 or 1: from v² + v a linear map gives back v without its lowest bit.
 use Rattle.std.proofs.Common.{◌≡◌, ◌⊎◌, ℕ, zero, suc, ◌%◌, ◌^◌, List, [], ◌∷◌, map, bit_xor, slice_index, refl, sym, ap, ◌∙◌, inl, inr, mod-eq_of_lt, arith}
-use lib.Bits.{xor_assoc, xor_self, xor_zero_r, xor_mod}
+use Rattle.std.specs.Int.Bits.{xor_assoc, xor_self, xor_zero_r, xor_mod}
 use Rattle.gf16.specs.Field.{IsSymbol, times_x, times_x_power, bit_places, set_bits, product_of}
 use Rattle.gf16.proofs.Totals.{IsAdditive, additive-zero, total_where, xor_exchange}
 use Rattle.gf16.proofs.Basis.{has_bit, total_where-bits, same_from_powers}
@@ -46,11 +46,14 @@ agree = refl
 
 given_back-square_plus : (a : ℕ) → IsSymbol a → given_back (square_plus a) ≡ without_lowest a
 given_back-square_plus = same_from_powers (λ a. given_back (square_plus a)) without_lowest
-    (λ a b. ap given_back (square_plus-additive a b) ∙ given_back-additive (square_plus a) (square_plus b)) without_lowest-additive agree
+    (λ a b. ap given_back (square_plus-additive a b)
+    ∙ given_back-additive (square_plus a) (square_plus b)) without_lowest-additive agree
 
 -- two symbols whose sum is 0 are one
 pub same_from_sum : (a b : ℕ) → bit_xor a b ≡ 0 → a ≡ b
-same_from_sum a b e = sym (xor_zero_r a) ∙ ap (bit_xor a) (sym (xor_self b)) ∙ sym (xor_assoc a b b) ∙ ap (λ c. bit_xor c b) e
+same_from_sum a b e =
+    sym (xor_zero_r a) ∙ ap (bit_xor a) (sym (xor_self b)) ∙ sym (xor_assoc a b b)
+    ∙ ap (λ c. bit_xor c b) e
 
 pub zero_or_one : (a : ℕ) → IsSymbol a → product_of a a ≡ a → (a ≡ 0) ⊎ (a ≡ 1)
 unfolding square_plus without_lowest

@@ -14,10 +14,12 @@ squares_product a (suc i) = product_of (squares_product a i) (squared a (suc i))
 pub squares_product_is_symbol : (a i : ℕ) → IsSymbol (squares_product a i)
 unfolding squares_product
 squares_product_is_symbol a zero = lit< tt
-squares_product_is_symbol a (suc i) = product_is_symbol (squares_product a i) (squared a (suc i)) (squares_product_is_symbol a i)
+squares_product_is_symbol a (suc i) =
+    product_is_symbol (squares_product a i) (squared a (suc i)) (squares_product_is_symbol a i)
 
 -- two more factors a make it the next square
-twice_times_squares : (a i : ℕ) → IsSymbol a → product_of a (product_of a (squares_product a i)) ≡ squared a (suc i)
+twice_times_squares : (a i : ℕ) → IsSymbol a
+    → product_of a (product_of a (squares_product a i)) ≡ squared a (suc i)
 unfolding squares_product squared
 twice_times_squares a zero h = ap (product_of a) (product-one_right a)
 twice_times_squares a (suc i) h =
@@ -43,7 +45,8 @@ product-inverse a h some =
     (λ one. one)
     (zero_or_one e (product_is_symbol a inverse h) idempotent)
 
-pub product_cancel : (a b c : ℕ) → IsSymbol a → IsSymbol b → IsSymbol c → a ≢ 0 → product_of a b ≡ product_of a c → b ≡ c
+pub product_cancel : (a b c : ℕ) → IsSymbol a → IsSymbol b → IsSymbol c → a ≢ 0
+    → product_of a b ≡ product_of a c → b ≡ c
 product_cancel a b c by_a by_b by_c some e =
     let inverse = inverse_of a in
     let one = product-inverse a by_a some in
@@ -64,5 +67,6 @@ one_inverse a h some =
       inverse = inverse_of a;
       is_symbol = squares_product_is_symbol a 15;
       is_inverse = one;
-      only = λ b by_b e. product_cancel a b (inverse_of a) h by_b (squares_product_is_symbol a 15) some (e ∙ sym one);
+      only = λ b by_b e. product_cancel a b (inverse_of a) h by_b (squares_product_is_symbol a 15) some (e
+          ∙ sym one);
     }

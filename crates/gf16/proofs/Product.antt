@@ -1,6 +1,6 @@
 -- The product is additive in each factor, and any additive function that commutes with times x passes through it.
 use Rattle.std.proofs.Common.{◌≡◌, ℕ, ◌%◌, ◌^◌, Bool, true, false, cond, List, map, bit_xor, refl, sym, ap, ap₂, subst, ◌∙◌, [], ◌∷◌, lit<, arith}
-use lib.Bits.{xor_zero_r, xor_lt}
+use Rattle.std.specs.Int.Bits.{xor_zero_r, xor_lt}
 use Rattle.gf16.specs.Field.{IsSymbol, times_x, times_x_power, bit_places, set_bits, product_of}
 use Rattle.gf16.proofs.Totals.{IsAdditive, additive-zero, total_where-cons, total_where, additive-total_where, total_where-xor}
 use Rattle.gf16.proofs.TimesX.{times_x-additive, times_x_power-additive, times_x_power_is_symbol, along_power, low-additive, times_x-low}
@@ -11,7 +11,8 @@ unfolding product_of set_bits
 product_is a b = refl
 
 -- f passes through a product to its left factor
-pub along_product : (f : ℕ → ℕ) → IsAdditive f → ((a : ℕ) → f (times_x a) ≡ times_x (f a)) → (a b : ℕ) → f (product_of a b) ≡ product_of (f a) b
+pub along_product : (f : ℕ → ℕ) → IsAdditive f → ((a : ℕ) → f (times_x a) ≡ times_x (f a)) → (a b : ℕ)
+    → f (product_of a b) ≡ product_of (f a) b
 along_product f additive commutes a b =
     ap f (product_is a b)
     ∙ additive-total_where f (times_x_power a) (times_x_power (f a)) (has_bit b) additive (along_power f commutes a) bit_places
@@ -56,11 +57,13 @@ powers_of_one = refl
 
 pub product-one_left : (b : ℕ) → IsSymbol b → product_of 1 b ≡ b
 product-one_left b h =
-    product_is 1 b ∙ total_where-same (has_bit b) (times_x_power 1) (λ i. 2 ^ i) bit_places powers_of_one ∙ powers_of_symbol b h
+    product_is 1 b ∙ total_where-same (has_bit b) (times_x_power 1) (λ i. 2 ^ i) bit_places powers_of_one
+    ∙ powers_of_symbol b h
 
 -- ---- products of symbols are symbols
 
-total_is_symbol : (p : ℕ → Bool) (f : ℕ → ℕ) → ((i : ℕ) → IsSymbol (f i)) → (xs : List ℕ) → IsSymbol (total_where p f xs)
+total_is_symbol : (p : ℕ → Bool) (f : ℕ → ℕ) → ((i : ℕ) → IsSymbol (f i)) → (xs : List ℕ)
+    → IsSymbol (total_where p f xs)
 total_is_symbol p f h [] = lit< tt
 total_is_symbol p f h (x ∷ xs) =
     let P : ℕ → Type 0 = IsSymbol in
@@ -79,11 +82,13 @@ product_is_symbol a b h =
 
 -- two right factors may change places
 pub product_exchange : (a b c : ℕ) → product_of (product_of a b) c ≡ product_of (product_of a c) b
-product_exchange a b c = along_product (λ d. product_of d c) (product_distributes_left c) (λ d. sym (times_x-product d c)) a b
+product_exchange a b c =
+    along_product (λ d. product_of d c) (product_distributes_left c) (λ d. sym (times_x-product d c)) a b
 
 pub product_comm : (a b : ℕ) → IsSymbol a → IsSymbol b → product_of a b ≡ product_of b a
 product_comm a b by_a by_b =
-    ap (λ c. product_of c b) (sym (product-one_left a by_a)) ∙ product_exchange 1 a b ∙ ap (λ c. product_of c a) (product-one_left b by_b)
+    ap (λ c. product_of c b) (sym (product-one_left a by_a)) ∙ product_exchange 1 a b
+    ∙ ap (λ c. product_of c a) (product-one_left b by_b)
 
 -- a right factor counts by its low 16 bits alone
 product-low_right : (a b : ℕ) → product_of a (b % 2 ^ 16) ≡ product_of a b
@@ -93,7 +98,8 @@ product-low_right a b = product_is a (b % 2 ^ 16) ∙ total_where-low b (times_x
 product-low_left : (a b : ℕ) → product_of a b % 2 ^ 16 ≡ product_of (a % 2 ^ 16) b
 product-low_left = along_product (λ a. a % 2 ^ 16) low-additive times_x-low
 
-assoc_of_symbols : (a b c : ℕ) → IsSymbol a → IsSymbol b → product_of (product_of a b) c ≡ product_of a (product_of b c)
+assoc_of_symbols : (a b c : ℕ) → IsSymbol a → IsSymbol b
+    → product_of (product_of a b) c ≡ product_of a (product_of b c)
 assoc_of_symbols a b c by_a by_b =
     ap (λ d. product_of d c) (product_comm a b by_a by_b)
     ∙ product_exchange b a c

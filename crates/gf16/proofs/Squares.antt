@@ -1,6 +1,6 @@
 -- Squaring takes sums to sums and products to products, and 16 squarings give a symbol back.
 use Rattle.std.proofs.Common.{◌≡◌, ℕ, zero, suc, ◌%◌, ◌^◌, bit_xor, refl, sym, ap, ap₂, ◌∙◌, mod-eq_of_lt, arith}
-use lib.Bits.{xor_assoc, xor_self, xor_mod}
+use Rattle.std.specs.Int.Bits.{xor_assoc, xor_self, xor_mod}
 use Rattle.gf16.specs.Field.{IsSymbol, times_x, times_x_power, bit_places, set_bits, product_of}
 use Rattle.gf16.proofs.Totals.{IsAdditive}
 use Rattle.gf16.proofs.TimesX.{times_x-low}
@@ -10,7 +10,8 @@ pub xor_cancel : (a b : ℕ) → bit_xor a (bit_xor a b) ≡ b
 xor_cancel a b = sym (xor_assoc a a b) ∙ ap (λ c. bit_xor c b) (xor_self a)
 
 -- the square of a sum: the two mixed products are one, and cancel
-pub square_of_sum : (a b : ℕ) → IsSymbol a → IsSymbol b → product_of (bit_xor a b) (bit_xor a b) ≡ bit_xor (product_of a a) (product_of b b)
+pub square_of_sum : (a b : ℕ) → IsSymbol a → IsSymbol b
+    → product_of (bit_xor a b) (bit_xor a b) ≡ bit_xor (product_of a a) (product_of b b)
 square_of_sum a b by_a by_b =
     let mixed = product_of a b in
     let right : product_of b (bit_xor a b) ≡ bit_xor mixed (product_of b b) =
@@ -20,7 +21,8 @@ square_of_sum a b by_a by_b =
     ∙ xor_assoc (product_of a a) mixed (bit_xor mixed (product_of b b))
     ∙ ap (bit_xor (product_of a a)) (xor_cancel mixed (product_of b b))
 
-pub square_of_product : (a b : ℕ) → IsSymbol a → product_of (product_of a b) (product_of a b) ≡ product_of (product_of a a) (product_of b b)
+pub square_of_product : (a b : ℕ) → IsSymbol a
+    → product_of (product_of a b) (product_of a b) ≡ product_of (product_of a a) (product_of b b)
 square_of_product a b by_a =
     sym (product_assoc (product_of a b) a b (product_is_symbol a b by_a))
     ∙ ap (λ c. product_of c b) (product_exchange a b a)
@@ -36,14 +38,17 @@ unfolding squared
 squared_is_symbol a zero h = h
 squared_is_symbol a (suc i) h = product_is_symbol (squared a i) (squared a i) (squared_is_symbol a i h)
 
-squared_of_sum : (a b i : ℕ) → IsSymbol a → IsSymbol b → squared (bit_xor a b) i ≡ bit_xor (squared a i) (squared b i)
+squared_of_sum : (a b i : ℕ) → IsSymbol a → IsSymbol b
+    → squared (bit_xor a b) i ≡ bit_xor (squared a i) (squared b i)
 unfolding squared
 squared_of_sum a b zero by_a by_b = refl
 squared_of_sum a b (suc i) by_a by_b =
     let e = squared_of_sum a b i by_a by_b in
-    ap₂ product_of e e ∙ square_of_sum (squared a i) (squared b i) (squared_is_symbol a i by_a) (squared_is_symbol b i by_b)
+    ap₂ product_of e e
+    ∙ square_of_sum (squared a i) (squared b i) (squared_is_symbol a i by_a) (squared_is_symbol b i by_b)
 
-squared_of_product : (a b i : ℕ) → IsSymbol a → squared (product_of a b) i ≡ product_of (squared a i) (squared b i)
+squared_of_product : (a b i : ℕ) → IsSymbol a
+    → squared (product_of a b) i ≡ product_of (squared a i) (squared b i)
 unfolding squared
 squared_of_product a b zero by_a = refl
 squared_of_product a b (suc i) by_a =

@@ -1,6 +1,6 @@
 -- The field of 2^16 symbols: polynomials in x of degree below 16 over the field of two elements, added place by place
 -- and multiplied modulo x^16 + x^12 + x^3 + x + 1. The coefficient of x^i is bit i of the number.
--- Declares the sum and the product of two symbols, what it is to be an inverse, and all laws of a field as one record.
+-- Defines the sum and the product of two symbols, what it is to have one inverse, and all laws of a field as one record.
 use Rattle.std.specs.Prelude.{◌≡◌, ◌≢◌, ◌⊎◌, ℕ, zero, suc, ◌*◌, ◌^◌, ◌<◌, List, [], ◌∷◌, map, filter, bit_xor, ◌==◌, if◌then◌else◌}
 use Rattle.std.specs.Int.{bit_at}
 use Rattle.std.specs.List.{range_with_len}
@@ -27,7 +27,7 @@ unfoldable pub times_x_power : ℕ → ℕ → ℕ
 times_x_power a zero = a
 times_x_power a (suc i) = times_x (times_x_power a i)
 
--- the places of a symbol's bits
+-- the places of a symbol's bits, 0 to 15
 unfoldable pub bit_places : List ℕ
 bit_places = range_with_len 0 16
 
@@ -46,8 +46,7 @@ pub record HasOneInverse (a : ℕ) : Type 0 where
   pub is_inverse : product_of a inverse ≡ 1
   pub only : (b : ℕ) → IsSymbol b → product_of a b ≡ 1 → b ≡ inverse
 
--- The symbols make a field of characteristic two. A law is stated for every number where it holds there, and else for
--- the symbols that it needs.
+-- the laws of a field of characteristic two; a law that holds of every number asks for no symbol
 pub record IsField : Type 0 where
   pub sum_closed : (a b : ℕ) → IsSymbol a → IsSymbol b → IsSymbol (sum_of a b)
   pub sum_associates : (a b c : ℕ) → sum_of (sum_of a b) c ≡ sum_of a (sum_of b c)
@@ -67,4 +66,5 @@ pub record IsField : Type 0 where
   pub zero_product : (a : ℕ) → product_of 0 a ≡ 0
   pub inverse : (a : ℕ) → IsSymbol a → a ≢ 0 → (b : ℕ) × IsSymbol b × (product_of a b ≡ 1)
   pub no_zero_divisors : (a b : ℕ) → IsSymbol a → IsSymbol b → product_of a b ≡ 0 → (a ≡ 0) ⊎ (b ≡ 0)
-  pub product_cancels : (a b c : ℕ) → IsSymbol a → IsSymbol b → IsSymbol c → a ≢ 0 → product_of a b ≡ product_of a c → b ≡ c
+  pub product_cancels : (a b c : ℕ) → IsSymbol a → IsSymbol b → IsSymbol c → a ≢ 0
+      → product_of a b ≡ product_of a c → b ≡ c

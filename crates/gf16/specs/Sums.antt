@@ -1,4 +1,5 @@
--- The plain sums over lists of symbols that every faster kernel is measured against.
+-- Plain sums over lists of symbols, place by place: what a faster kernel is measured against.
+-- Defines a list times a symbol, a list plus a symbol times a list, and the sum of the products of two lists.
 use Rattle.std.specs.Prelude.{ℕ, List, [], ◌∷◌, map, zip}
 use Rattle.gf16.specs.Field.{sum_of, product_of, total_of}
 
