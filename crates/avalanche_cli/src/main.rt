@@ -46,3 +46,6 @@ fn words_of<R: Env + AllocGlobal>(rt: &R) -> Result<Words, Memory> {
     }
     Ok(words)
 }
+
+#[cfg(test)]
+mod tests;

@@ -51,7 +51,7 @@ impl<T> List<T> {
 
     /// How many more items `put` may take.
     pub fn spare(&self) -> usize
-        ensures { result ≤ self.now.spare }
+        ensures { result ≡ self.now.spare }
     {
         self.spare
     }
