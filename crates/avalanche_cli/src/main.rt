@@ -8,11 +8,11 @@ mod plain;
 mod program;
 
 pub use end::End;
-use gf16::Memory;
 use linear_spec::Words;
 pub use outcome::Outcome;
 pub use program::run;
 use std::env;
+use std::io::{self, ErrorKind};
 use std::process::ExitCode;
 use std::rt::Env;
 use swarm_io::{StdSink, StdSource};
@@ -33,18 +33,25 @@ fn main(rt: HostRuntime) -> ExitCode {
             )
             .end
         }
-        Err(Memory) => End::Memory,
+        Err(end) => end,
     };
     ExitCode::from(end.status())
 }
 
-/// The words after the program's name.
-fn words_of<R: Env + AllocGlobal>(rt: &R) -> Result<Words, Memory> {
+/// The words after the program's name. A word that is no text is none that is built.
+fn words_of<R: Env + AllocGlobal>(rt: &R) -> Result<Words, End> {
     let mut words = Words::new(rt.alloc());
-    for word in env::args(rt).map_err(|_| Memory)?.skip(1) {
+    for word in env::args(rt).map_err(|error| end_of_words(&error))?.skip(1) {
         words.push(word.as_str())?;
     }
     Ok(words)
+}
+
+fn end_of_words(error: &io::Error) -> End {
+    match error.kind() {
+        ErrorKind::OutOfMemory => End::Memory,
+        _ => End::NotBuilt,
+    }
 }
 
 #[cfg(test)]

@@ -1,6 +1,7 @@
 ghost use Rattle.std.specs.Prelude.{None};
 
 use super::*;
+use gf16::Memory;
 use linear_spec::List;
 use std::alloc::Global;
 use std::test::Fail;
