@@ -1,1 +1,5 @@
+pub mod BlockLemmas
+pub mod CutLemmas
 pub mod FileLemmas
+pub mod PaddingLemmas
+pub mod Spelling

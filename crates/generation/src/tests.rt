@@ -38,6 +38,17 @@ fn the_errors_have_their_numbers(rt: HostRuntime) {
     assert_eq!(rt; ShapeError::TooLong as u8, 4);
 }
 
+#[test]
+#[tactic(auto, unfolding(crate::specs::Shape::generations_of))]
+fn cuts_abcde_with_zeros_past_its_end(rt: HostRuntime) -> Result<(), Fail> {
+    let shape = Shape::new(5, 2, 2)?;
+    let last = shape.symbols(rt.alloc(), b"abcde", 1, 0)?;
+    assert_eq!(rt; last.as_slice(), [0x6500].as_slice());
+    let past = shape.symbols(rt.alloc(), b"abcde", 1, 1)?;
+    assert_eq!(rt; past.as_slice(), [0x0000].as_slice());
+    Ok(())
+}
+
 fn blocks_of_one_symbol(alloc: Global, symbols: &[u16]) -> Result<List<SymVec>, Memory>
     ensures count { IfOk result (λ blocks. length blocks.items ≡ length symbols.now) }
     ensures vectors { IfOk result (λ blocks. All (IsVector 1) blocks.items) }
