@@ -102,3 +102,6 @@ fn write_and_flush<W: Write>(writer: &mut W, piece: &[u8]) -> Option<usize>
     writer.flush().ok()?;
     Some(count)
 }
+
+#[cfg(test)]
+mod tests;

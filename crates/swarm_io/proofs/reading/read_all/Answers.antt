@@ -1,4 +1,4 @@
-use Rattle.std.proofs.Common.{◌≤◌, ◌+◌, length, ℕ, arith, length-take}
+use Rattle.std.proofs.Common.{ℕ, arith, length-take}
 use Rattle.swarm_io.proofs.MovedLemmas.{Takes-read, TakesAtMost-read}
 use Rattle.swarm_io.proofs.reading.read_all.Goals as goal
 

@@ -1,4 +1,4 @@
-use Rattle.std.proofs.Common.{◌≡◌, ℕ, length, arith, length-append, length-drop, length-take}
+use Rattle.std.proofs.Common.{ℕ, arith, length-append, length-drop, length-take}
 use Rattle.std.proofs.lemmas.List.{drop_all}
 use Rattle.swarm_io.proofs.MovedLemmas.{drop-moved}
 use Rattle.swarm_io.proofs.steady.SteadySourceSource.read.Goals as goal
