@@ -1,4 +1,4 @@
 pub mod Counts
 pub mod Moved
-pub mod Steady
-pub mod WriteError
+pub mod SinkRefusal
+pub mod SteadySink

@@ -14,3 +14,6 @@ pub use source::{Failed, Source};
 pub use standard::{StdSink, StdSource};
 pub use steady::{SteadySink, SteadySource};
 pub use writing::{WriteAllError, write_all_of};
+
+#[cfg(test)]
+mod tests;

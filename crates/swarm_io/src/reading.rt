@@ -10,6 +10,7 @@ use linear_spec::List;
 use std::alloc::Global;
 use thiserror::Error;
 
+// The most bytes of one read, whose buffer stands on the stack.
 const PIECE: usize = 65536;
 
 /// Why a whole input was not read.
@@ -39,8 +40,9 @@ impl From<Memory> for ReadAllError {
     }
 }
 
-/// Reads to the end of the input, which may have `limit` bytes. It takes at most one byte more, and holds at most the
-/// limit. After an error the bytes that it took are gone.
+/// Reads to the end of an input of at most `limit` bytes, in reads of at most 65,536.
+///
+/// After an error the bytes that were taken are lost.
 pub fn read_all<I: Source>(
     alloc: Global,
     input: &mut I,
@@ -48,11 +50,13 @@ pub fn read_all<I: Source>(
 ) -> Result<List<u8>, ReadAllError>
     requires { limit < 2 ^ 64 - 1 }
 
-    ensures whole { IfOk result (λ bytes. Consumes (I.remaining input.old) (I.remaining input.new) bytes.items) }
+    ensures whole { IfOk result (λ bytes.
+        Consumes (I.remaining input.old) (I.remaining input.new) bytes.items) }
     ensures end { OnOk result (IsAtEnd (I.remaining input.new)) }
     ensures within { IfOk result (λ bytes. length bytes.items ≤ limit) }
 
-    ensures read_fault { IsErrOf result ReadAllError.ReadFault → Rose (I.faults input.old) (I.faults input.new) }
+    ensures read_fault { IsErrOf result ReadAllError.ReadFault
+        → Rose (I.faults input.old) (I.faults input.new) }
     ensures too_large { IsErrOf result ReadAllError.TooLarge
         → Takes (I.remaining input.old) (I.remaining input.new) (limit + 1) }
     ensures otherwise { ¬ IsErrOf result ReadAllError.TooLarge
@@ -62,17 +66,16 @@ pub fn read_all<I: Source>(
 {
     let mut bytes = List::new(alloc);
     let mut buffer = [0; PIECE];
-    let mut room = limit + 1;
+    let mut room = limit;
     loop {
-        let want = room.min(PIECE as u64) as usize;
+        let want = (room + 1).min(PIECE as u64) as usize;
         let count = input.read(&mut buffer[..want])?;
         if count == 0 {
             return Ok(bytes);
         }
-        room -= count as u64;
-        if room == 0 {
-            return Err(ReadAllError::TooLarge);
-        }
+        room = room
+            .checked_sub(count as u64)
+            .ok_or(ReadAllError::TooLarge)?;
         bytes.extend_from_slice(&buffer[..count])?;
     }
 }

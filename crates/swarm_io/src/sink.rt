@@ -27,8 +27,10 @@ pub trait Sink {
         requires { 0 < length piece.now }
         ensures bound { IfOk result (λ n. (0 < n) × (n ≤ length piece.now)) }
         ensures bytes { WriteAppends (contents self.old) (contents self.new) result piece.now }
-        ensures failed { IsErrOf result SinkRefusal.Failed → Rose (faults self.old) (faults self.new) }
-        ensures memory { IsErrOf result SinkRefusal.Memory → Rose (wants self.old) (wants self.new) }
+        ensures failed { IsErrOf result SinkRefusal.Failed
+            → Rose (faults self.old) (faults self.new) }
+        ensures memory { IsErrOf result SinkRefusal.Memory
+            → Rose (wants self.old) (wants self.new) }
         ensures faults { faults self.old ≤ faults self.new }
         ensures wants { wants self.old ≤ wants self.new };
 }

@@ -14,7 +14,7 @@ pub trait Source {
     /// How often a read has failed.
     ghost faults: { Self → ℕ };
 
-    /// Moves the next bytes into the front of `buf`, and answers how many: 0 is the end of the input.
+    /// Moves the next bytes to the front of `buf`, and answers how many: 0 is the end of the input.
     fn read(&mut self, buf: &mut [u8]) -> Result<usize, Failed>
         requires { 0 < length buf.old }
         ensures bound { IfOk result (λ n. n ≤ length buf.old) }

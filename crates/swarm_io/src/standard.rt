@@ -1,4 +1,5 @@
-ghost use Rattle.std.specs.Prelude.{◌≡◌, ◌<◌, ◌≤◌, ℕ, None, length, IfSome};
+ghost use Rattle.std.specs.Prelude.{◌≡◌, ◌<◌, ◌≤◌, ◌+◌, ◌-◌, ◌^◌, min, ℕ, None, length, take, IfOk, IfErr, is_ok, if◌then◌else◌};
+ghost use Rattle.std.specs.Io.KnownBytes.{Appends, ReadConsumes};
 
 use crate::{Failed, Sink, SinkRefusal, Source};
 use std::io::{Read, Write};
@@ -6,7 +7,7 @@ use std::marker::Model;
 
 /// A source over a reader of std: a read is one call of it.
 ///
-/// Each error is a fault, also an interrupted call. Contracts see the count of faults, and not the bytes.
+/// Each error is a fault, an interrupted call too. Contracts see the count of faults.
 #[derive(Debug, Drop)]
 pub struct StdSource<R> {
     inner: R,
@@ -36,20 +37,14 @@ impl<R: Read> Source for StdSource<R> {
     ghost faults = { λ s. s };
 
     fn read(&mut self, buf: &mut [u8]) -> Result<usize, Failed> {
-        match self.inner.read(buf) {
-            Ok(count) => Ok(count),
-            Err(_) => {
-                self.faults = self.faults.saturating_add(1);
-                Err(Failed)
-            }
-        }
+        read_once(&mut self.inner, &mut self.faults, buf)
     }
 }
 
 /// A sink over a writer of std: a write is one call of `write` and one of `flush`.
 ///
-/// Each error is a fault, also an interrupted call, and so is a write that takes nothing. After a failing flush the
-/// bytes may have gone out. Contracts see the count of faults, and not the bytes.
+/// Each error is a fault, an interrupted call too, and so is a write that takes nothing. After a
+/// failing flush the bytes may have gone out. Contracts see the count of faults.
 #[derive(Debug, Drop)]
 pub struct StdSink<W> {
     inner: W,
@@ -81,24 +76,49 @@ impl<W: Write> Sink for StdSink<W> {
     ghost wants = { λ _. 0 };
 
     fn write(&mut self, piece: &[u8]) -> Result<usize, SinkRefusal> {
-        match write_and_flush(&mut self.inner, piece) {
-            Some(count) => Ok(count),
-            None => {
-                self.faults = self.faults.saturating_add(1);
-                Err(SinkRefusal::Failed)
-            }
+        write_once(&mut self.inner, &mut self.faults, piece)
+    }
+}
+
+// One read. A failure counts.
+fn read_once<R: Read>(reader: &mut R, faults: &mut u64, buf: &mut [u8]) -> Result<usize, Failed>
+    ensures bound { IfOk result (λ n. n ≤ length buf.old) }
+    ensures bytes { ReadConsumes (R.remaining reader.old) (R.remaining reader.new) result buf.new }
+    ensures counted { faults.new
+        ≡ (if is_ok result then faults.old else min (faults.old + 1) (2 ^ 64 - 1)) }
+    ensures faults { faults.old ≤ faults.new }
+{
+    match reader.read(buf) {
+        Ok(count) => Ok(count),
+        Err(_) => {
+            *faults = faults.saturating_add(1);
+            Err(Failed)
         }
     }
 }
 
-// One write and one flush: how many bytes were taken, or `None` where a call failed or none were taken.
-fn write_and_flush<W: Write>(writer: &mut W, piece: &[u8]) -> Option<usize>
-    ensures { IfSome result (λ n. (0 < n) × (n ≤ length piece.now)) }
+// One write and one flush. A failure of either counts, and so does a write that takes nothing.
+fn write_once<W: Write>(
+    writer: &mut W,
+    faults: &mut u64,
+    piece: &[u8],
+) -> Result<usize, SinkRefusal>
+    ensures bound { IfOk result (λ n. (0 < n) × (n ≤ length piece.now)) }
+    ensures bytes { IfOk result (λ n.
+        Appends (W.contents writer.old) (W.contents writer.new) (take n piece.now)) }
+    ensures failed { IfErr result (λ refusal. refusal ≡ SinkRefusal.Failed) }
+    ensures counted { faults.new
+        ≡ (if is_ok result then faults.old else min (faults.old + 1) (2 ^ 64 - 1)) }
+    ensures faults { faults.old ≤ faults.new }
 {
-    let count = writer.write(piece).ok()?;
-    if count == 0 {
-        return None;
+    match writer.write(piece) {
+        Ok(count) if count > 0 && writer.flush().is_ok() => Ok(count),
+        _ => {
+            *faults = faults.saturating_add(1);
+            Err(SinkRefusal::Failed)
+        }
     }
-    writer.flush().ok()?;
-    Some(count)
 }
+
+#[cfg(test)]
+mod tests;

@@ -44,6 +44,7 @@ impl Source for SteadySource {
 
     ghost faults = { λ _. 0 };
 
+    #[tactic(auto, using(crate::proofs::MovedLemmas::moves))]
     fn read(&mut self, buf: &mut [u8]) -> Result<usize, Failed> {
         let left = &self.bytes.as_slice()[self.given..];
         let count = left.len().min(buf.len()).min(self.piece);
@@ -65,7 +66,7 @@ pub struct SteadySink {
 
 impl Model for SteadySink {
     ghost use Rattle.std.specs.Prelude.{◌<◌};
-    ghost use Rattle.swarm_io.specs.Steady.{SteadySinkValue};
+    ghost use Rattle.swarm_io.specs.SteadySink.{SteadySinkValue};
 
     ghost Value = { SteadySinkValue };
 

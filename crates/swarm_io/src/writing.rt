@@ -2,7 +2,7 @@ ghost use Rattle.std.specs.Prelude.{◌≡◌, ◌≤◌, length, OnOk, OnErr, I
 ghost use Rattle.std.specs.Io.KnownBytes.{Appends};
 ghost use Rattle.swarm_io.specs.Counts.{Rose};
 ghost use Rattle.swarm_io.specs.Moved.{AppendsPrefix};
-ghost use Rattle.swarm_io.specs.WriteError.{write_error_of};
+ghost use Rattle.swarm_io.specs.SinkRefusal.{write_error_of};
 
 use crate::{Sink, SinkRefusal};
 use thiserror::Error;
@@ -27,13 +27,17 @@ impl From<SinkRefusal> for WriteAllError {
     }
 }
 
-/// Writes all the bytes, in as many calls as it takes. With none to write the sink is not touched.
+/// Writes all the bytes, in as many calls as it takes.
+#[tactic(auto, using(crate::proofs::MovedLemmas::writes))]
 pub fn write_all_of<O: Sink>(output: &mut O, bytes: &[u8]) -> Result<(), WriteAllError>
     ensures ok { OnOk result (Appends (O.contents output.old) (O.contents output.new) bytes.now) }
-    ensures err { OnErr result (AppendsPrefix (O.contents output.old) (O.contents output.new) bytes.now) }
+    ensures err { OnErr result
+        (AppendsPrefix (O.contents output.old) (O.contents output.new) bytes.now) }
 
-    ensures write_fault { IsErrOf result WriteAllError.WriteFault → Rose (O.faults output.old) (O.faults output.new) }
-    ensures memory { IsErrOf result WriteAllError.Memory → Rose (O.wants output.old) (O.wants output.new) }
+    ensures write_fault { IsErrOf result WriteAllError.WriteFault
+        → Rose (O.faults output.old) (O.faults output.new) }
+    ensures memory { IsErrOf result WriteAllError.Memory
+        → Rose (O.wants output.old) (O.wants output.new) }
     ensures faults { O.faults output.old ≤ O.faults output.new }
     ensures wants { O.wants output.old ≤ O.wants output.new }
 
