@@ -13,7 +13,7 @@ use Rattle.linear_spec.specs.UnitVector.{unit_of}
 use Rattle.generation.specs.Shape.{Dimensions, generations_of, symbols_per_block}
 use Rattle.generation.specs.Blocks.{AreBlocks}
 use Rattle.packet_wire.specs.Stream.{IsPacket}
-use Rattle.avalanche_cli.specs.Plain.{payloads_of}
+use Rattle.linear_spec.specs.Packet.{payloads_of}
 
 -- what `!=` says where it is false
 pub same_from_ne : (xs ys : List ℕ) (b : Bool) → b ≡ pointwise nat_eq xs ys → false ≡ not b → xs ≡ ys

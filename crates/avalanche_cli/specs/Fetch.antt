@@ -11,18 +11,27 @@ use Rattle.avalanche_cli.specs.declared.end.End.TheVariants.{Done, ReadFault, Wr
 abbrev pub IsFetch : List (List ℕ) → Type 0
 IsFetch words = words ≡ codes "fetch" ∷ []
 
+-- the most bytes that a stream may have
+abbrev pub stream_limit : ℕ
+stream_limit = 67108864
+
 -- the bytes are within the limit, and a plain stream of this file
 pub record CanFetch (bytes file : List ℕ) : Type 0 where
-  pub within : length bytes ≤ 67108864
+  pub within : length bytes ≤ stream_limit
   pub contents : Contents
   pub stream : IsFirstStream bytes contents
   pub plain : IsPlain contents file
 
--- the input is a plain stream of this file, so far as it tells its bytes
+-- the bytes are no plain stream within the limit
+abbrev pub CannotFetch : List ℕ → Type 0
+CannotFetch bytes = (file : List ℕ) → CanFetch bytes file → ⊥
+
+-- the input is a plain stream of this file and of no other, so far as it tells its bytes
 pub record IsFileOf (input : Option (List ℕ)) (file : List ℕ) : Type 0 where
   pub bytes : List ℕ
   pub told : IfSome input (λ all. all ≡ bytes)
   pub can : CanFetch bytes file
+  pub only : (other : List ℕ) → CanFetch bytes other → other ≡ file
 
 -- the input is a plain stream, and the output gained its file
 pub record Gives (input output-before output-now : Option (List ℕ)) : Type 0 where

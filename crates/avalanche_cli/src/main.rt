@@ -1,4 +1,4 @@
-//! `avalanche`: spreads a file among peers by random linear network coding.
+//! `avalanche`: the program, and its top call `run`.
 #![tactic(auto)]
 
 mod end;

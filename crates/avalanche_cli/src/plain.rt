@@ -1,9 +1,10 @@
 ghost use Rattle.std.specs.Prelude.{◌≡◌, ◌<◌, ℕ, List as list, length, IfOk, IfErr, IsErrOf};
 ghost use Rattle.std.specs.List.{All};
+ghost use Rattle.linear_spec.specs.Packet.{payloads_of};
 ghost use Rattle.linear_spec.specs.UnitVector.{unit_of};
 ghost use Rattle.generation.specs.Shape.{generations_of};
 ghost use Rattle.packet_wire.specs.Stream.{IsPacket, contents_of};
-ghost use Rattle.avalanche_cli.specs.Plain.{HaveUnits, IsPlain, payloads_of};
+ghost use Rattle.avalanche_cli.specs.Plain.{HaveUnits, IsPlain};
 ghost use Rattle.avalanche_cli.specs.Fetch.{IsRefusalOfStream};
 
 use crate::End;
@@ -30,8 +31,8 @@ pub(crate) fn plain_file(alloc: Global, stream: &Stream) -> Result<List<u8>, End
     Ok(file)
 }
 
-/// The payloads of `k` packets of which packet i has the unit coefficients of column i. `NotBuilt` comes where there
-/// are more or fewer packets, or one has other coefficients.
+/// The payloads of `k` packets that are the blocks themselves. `NotBuilt` comes where there are more or fewer, or one has
+/// other coefficients than the unit vector of its column.
 fn unit_payloads(alloc: Global, k: u16, packets: &List<Packet>) -> Result<List<SymVec>, End>
     ensures count { IfOk result (λ _. length packets.now.items ≡ k) }
     ensures units { IfOk result (λ _. HaveUnits k packets.now.items) }

@@ -1,10 +1,10 @@
-ghost use Rattle.std.specs.Prelude.{◌≡◌, ◌⊎◌, ◌+◌, ◌↔◌, ℕ, List as list, [], IfSome, IsTrue};
+ghost use Rattle.std.specs.Prelude.{◌≡◌, ◌⊎◌, ◌+◌, ◌≤◌, ◌↔◌, ℕ, List as list, [], IfSome, IsTrue};
 ghost use Rattle.std.specs.Io.KnownBytes.{IsAtEnd};
 ghost use Rattle.swarm_io.specs.Counts.{Rose};
 ghost use Rattle.swarm_io.specs.Moved.{TakesAtMost};
-ghost use Rattle.avalanche_cli.specs.Fetch.{CanFetch, Gives, GivesPrefix, IsEndOfFetch, IsFetch};
+ghost use Rattle.avalanche_cli.specs.Fetch.{CanFetch, CannotFetch, Gives, GivesPrefix, IsEndOfFetch, IsFetch, stream_limit};
 
-use crate::fetch::{MAX_STREAM, fetch};
+use crate::fetch::fetch;
 use crate::{End, Outcome};
 use linear_spec::{List, Words};
 use std::alloc::Global;
@@ -13,7 +13,7 @@ use swarm_io::{Sink, Source};
 
 /// Runs the command of the words: so far the one word `fetch`, which reads a stream and writes its file.
 ///
-/// `words` are those after the program's name. `rt` is not used yet, and nothing is written to `errors`.
+/// `words` are those after the program's name. No thread is started so far, and `errors` gains nothing.
 pub fn run<R: Threads + Sync, I: Source, O: Sink, E: Sink>(
     _rt: &R,
     alloc: Global,
@@ -37,8 +37,8 @@ pub fn run<R: Threads + Sync, I: Source, O: Sink, E: Sink>(
 
     // NotBuilt: exactly where the input is no plain stream, unless a fault came or memory was wanted.
     ensures not_built { IsFetch words.now → result.end ≡ End.NotBuilt
-        → IfSome (I.remaining input.old) (λ bytes. (file : list ℕ) → CanFetch bytes file → ⊥) }
-    ensures unfetchable { IsFetch words.now → IfSome (I.remaining input.old) (λ bytes. ((file : list ℕ) → CanFetch bytes file → ⊥)
+        → IfSome (I.remaining input.old) CannotFetch }
+    ensures unfetchable { IsFetch words.now → IfSome (I.remaining input.old) (λ bytes. CannotFetch bytes
         → ¬ Rose (I.faults input.old) (I.faults input.new)
         → (result.end ≡ End.NotBuilt) ⊎ (result.end ≡ End.Memory)) }
 
@@ -56,7 +56,12 @@ pub fn run<R: Threads + Sync, I: Source, O: Sink, E: Sink>(
         → (output.new ≡ output.old) ⊎ (GivesPrefix (I.remaining input.old) (O.contents output.old) (O.contents output.new)
         × Rose (O.wants output.old) (O.wants output.new)) }
 
-    ensures taken { TakesAtMost (I.remaining input.old) (I.remaining input.new) (MAX_STREAM + 1) }
+    // Counts never fall, and no more is read than the limit and one byte.
+    ensures input_faults { I.faults input.old ≤ I.faults input.new }
+    ensures output_faults { O.faults output.old ≤ O.faults output.new }
+    ensures output_wants { O.wants output.old ≤ O.wants output.new }
+    ensures taken { TakesAtMost (I.remaining input.old) (I.remaining input.new) (stream_limit + 1) }
+
     ensures errors_untouched { errors.new ≡ errors.old }
     ensures no_replies { result.replies.items ≡ [] }
     ensures no_records { result.records.items ≡ [] }

@@ -141,6 +141,7 @@ impl<T: Copy> List<T> {
     pub fn extend_from_slice(&mut self, items: &[T]) -> Result<(), Memory>
         ensures ok { OnOk result (self.new.items ≡ self.old.items ++ items.now) }
         ensures err { OnErr result (self.new.items ≡ self.old.items) }
+        ensures spare { self.old.spare ≤ self.new.spare + length items.now }
         ensures succeeds { length items.now ≤ self.old.spare → IsOk result }
     {
         self.items.extend_from_slice(items)?;

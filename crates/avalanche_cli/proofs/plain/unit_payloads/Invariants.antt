@@ -1,7 +1,7 @@
 use Rattle.std.proofs.Common.{◌≡◌, ◌<◌, ℕ, get_or, take}
 use Rattle.linear_spec.specs.declared.packet.Packet.{Packet}
 use Rattle.linear_spec.specs.UnitVector.{unit_of}
-use Rattle.avalanche_cli.specs.Plain.{payloads_of}
+use Rattle.linear_spec.specs.Packet.{payloads_of}
 use Rattle.avalanche_cli.proofs.plain.unit_payloads.Given as goal
 
 -- the packets so far have unit coefficients, and their payloads were copied
