@@ -1,6 +1,10 @@
+pub mod Cases
+pub mod Combination
 pub mod List
 pub mod ListLends
 pub mod Packet
+pub mod Rows
+pub mod Span
 pub mod SymVecLends
 pub mod Symbols
 pub mod UnitVector
