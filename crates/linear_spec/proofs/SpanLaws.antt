@@ -9,7 +9,7 @@ use Rattle.gf16.specs.Sums.{scaled, plus_scaled, dot_of}
 use Rattle.linear_spec.specs.Symbols.{AreSymbols, IsVector}
 use Rattle.linear_spec.specs.Combination.{column_of, combination_of}
 use Rattle.linear_spec.specs.Span.{InSpan}
-pub use Rattle.linear_spec.proofs.VectorLaws.{length-plus_scaled, take-plus_scaled, drop-plus_scaled, append-plus_scaled, plus_scaled-zero, plus_scaled-zeros, zeros-plus_scaled, plus_scaled-twice, plus_scaled-commutes, plus_scaled-plus_scaled, plus_scaled-sum, plus_scaled-scaled, scaled-scaled, scaled-zeros, scaled-plus_scaled, scaled-one, IsVector-plus_scaled, IsVector-scaled, IsVector-replicate, IsVector-nil, IsVector-cons, get_or-plus_scaled, get_or-scaled}
+pub use Rattle.linear_spec.proofs.VectorLaws.{length-plus_scaled, take-plus_scaled, drop-plus_scaled, append-plus_scaled, plus_scaled-zero, plus_scaled-zeros, zeros-plus_scaled, plus_scaled-twice, plus_scaled-cancels, plus_scaled-commutes, plus_scaled-plus_scaled, plus_scaled-sum, plus_scaled-scaled, scaled-scaled, scaled-zeros, scaled-plus_scaled, scaled-one, IsVector-plus_scaled, IsVector-scaled, IsVector-replicate, IsVector-nil, IsVector-cons, get_or-plus_scaled, get_or-scaled}
 
 -- ---- combinations
 

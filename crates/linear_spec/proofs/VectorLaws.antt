@@ -127,6 +127,18 @@ module _ (field : IsField) where
   scaled-one [] symbols = refl
   scaled-one (y ∷ v) symbols = ap₂ (λ d r. d ∷ r) (field.one_product y (All-head IsSymbol y v symbols)) (scaled-one v (All-tail IsSymbol y v symbols))
 
+  -- what a multiple is added to is taken away again
+  pub plus_scaled-cancels : (c : ℕ) (u v : List ℕ) → AreSymbols u → length u ≡ length v → plus_scaled (plus_scaled u c v) 1 u ≡ scaled c v
+  plus_scaled-cancels c [] [] symbols same = refl
+  plus_scaled-cancels c [] (y ∷ v) symbols same = absurd (omega arith)
+  plus_scaled-cancels c (x ∷ u) [] symbols same = absurd (omega arith)
+  plus_scaled-cancels c (x ∷ u) (y ∷ v) symbols same =
+      ap₂ (λ d r. d ∷ r)
+      (ap (sum_of (sum_of x (product_of c y))) (field.one_product x (All-head IsSymbol x u symbols))
+      ∙ ap (λ a. sum_of a x) (field.sum_commutes x (product_of c y))
+      ∙ sum-twice (product_of c y) x)
+      (plus_scaled-cancels c u v (All-tail IsSymbol x u symbols) (omega arith))
+
   -- ---- vectors of symbols
 
   pub AreSymbols-plus_scaled : (c : ℕ) (u v : List ℕ) → AreSymbols u → IsSymbol c → AreSymbols (plus_scaled u c v)
