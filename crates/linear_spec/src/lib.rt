@@ -3,15 +3,19 @@
 
 mod combination;
 pub mod laws;
+mod equations;
 mod list;
 mod packet;
+mod record;
 mod reply;
 mod sym_vec;
 mod words;
 
 pub use combination::combine;
+pub use equations::Equations;
 pub use list::List;
 pub use packet::Packet;
+pub use record::{Drawn, Record};
 pub use reply::Reply;
 pub use sym_vec::SymVec;
 pub use words::Words;
