@@ -14,20 +14,26 @@ use Rattle.linear_spec.specs.Cases.{IsFresh, IsWithin, IsConflicting}
 abbrev pub packets_of : List Record → List Packet
 packets_of records = map (λ record'. record'.packet) records
 
--- the reply to an offer of a packet at a front: the first check that it fails, or else its case there, with the number of
--- the front's packets
+-- the reply to a packet that passes: its case at the front, with the number of the front's packets
+abbrev pub IsCaseReply : ℕ → ℕ → List Packet → Packet → Reply → Type 0
+IsCaseReply k s front packet (FailedCheck check at) = ⊥
+IsCaseReply k s front packet (Innovative at) = IsFresh k front packet × (at ≡ length front)
+IsCaseReply k s front packet (NotInnovative at) = IsWithin k s front packet × (at ≡ length front)
+IsCaseReply k s front packet (Conflicting at) = IsConflicting k s front packet × (at ≡ length front)
+
+-- the reply to an offer of a packet at a front: the first check that it fails, or else its case there
 abbrev pub IsReply : Equations → List Packet → Packet → Reply → Type 0
 IsReply equations front packet (FailedCheck check at) = IsFirstFailing equations packet check × (at ≡ length front)
-IsReply equations front packet (Innovative at) = Passes equations packet × IsFresh equations.k front packet × (at ≡ length front)
-IsReply equations front packet (NotInnovative at) = Passes equations packet × IsWithin equations.k equations.s front packet × (at ≡ length front)
-IsReply equations front packet (Conflicting at) = Passes equations packet × IsConflicting equations.k equations.s front packet × (at ≡ length front)
+IsReply equations front packet (Innovative at) = Passes equations packet × IsCaseReply equations.k equations.s front packet (Innovative at)
+IsReply equations front packet (NotInnovative at) = Passes equations packet × IsCaseReply equations.k equations.s front packet (NotInnovative at)
+IsReply equations front packet (Conflicting at) = Passes equations packet × IsCaseReply equations.k equations.s front packet (Conflicting at)
 
--- what is recorded after a reply: an innovative packet, and no other
-abbrev pub recorded : Record → Reply → List Record
-recorded record' (FailedCheck check at) = []
-recorded record' (Innovative at) = record' ∷ []
-recorded record' (NotInnovative at) = []
-recorded record' (Conflicting at) = []
+-- what an offer of this adds after a reply: an innovative one, and no other
+abbrev pub recorded : {X : Type 0} → X → Reply → List X
+recorded offered (FailedCheck check at) = []
+recorded offered (Innovative at) = offered ∷ []
+recorded offered (NotInnovative at) = []
+recorded offered (Conflicting at) = []
 
 -- an offer by a caller, as the caller's call of this number
 pub record IsOffer (equations : Equations) (before : List Record) (caller call : ℕ) (packet : Packet) (reply : Reply) (after : List Record) : Type 0 where
