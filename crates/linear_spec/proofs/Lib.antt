@@ -1,1 +1,4 @@
+pub mod SpanChanges
+pub mod SpanLaws
 pub mod SymbolLemmas
+pub mod VectorLaws

@@ -1,6 +1,13 @@
+pub mod Cases
+pub mod Combination
 pub mod List
 pub mod ListLends
 pub mod Packet
+pub mod Passing
+pub mod Rows
+pub mod SequentialBasis
+pub mod Solving
+pub mod Span
 pub mod SymVecLends
 pub mod Symbols
 pub mod UnitVector

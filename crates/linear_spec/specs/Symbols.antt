@@ -2,6 +2,7 @@
 use Rattle.std.specs.Prelude.{ℕ, ◌≡◌, ◌<◌, ◌^◌, ◌+◌, ◌*◌, List, [], ◌∷◌, length}
 use Rattle.std.specs.List.{All, flat_map}
 use Rattle.std.specs.Int.{w16, to_be_bytes}
+use Rattle.gf16.specs.Field.{IsSymbol}
 
 -- each number is a byte
 abbrev pub AreBytes : List ℕ → Type 0
@@ -9,7 +10,7 @@ AreBytes bytes = All (λ byte. byte < 2 ^ 8) bytes
 
 -- each number is a symbol
 abbrev pub AreSymbols : List ℕ → Type 0
-AreSymbols symbols = All (λ symbol. symbol < 2 ^ 16) symbols
+AreSymbols symbols = All IsSymbol symbols
 
 -- the bytes of symbols
 unfoldable pub be_bytes_of : List ℕ → List ℕ

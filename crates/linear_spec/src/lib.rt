@@ -1,15 +1,21 @@
 //! Lists, words, symbol vectors and packets: the plain data that every crate above speaks of.
 #![tactic(auto)]
 
+mod combination;
 pub mod laws;
+mod equations;
 mod list;
 mod packet;
+mod record;
 mod reply;
 mod sym_vec;
 mod words;
 
+pub use combination::combine;
+pub use equations::Equations;
 pub use list::List;
 pub use packet::Packet;
+pub use record::{Drawn, Record};
 pub use reply::Reply;
 pub use sym_vec::SymVec;
 pub use words::Words;

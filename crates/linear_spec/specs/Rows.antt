@@ -1,0 +1,40 @@
+-- Rows in echelon form: a row stands for a packet after those before it. A row has the form of a packet.
+use Rattle.std.specs.Prelude.{◌≡◌, ◌≢◌, ℕ, ◌+◌, ◌<◌, List, [], ◌∷◌, length, take, drop, not, ◌==◌, slice_index, slice_index_or}
+use Rattle.std.specs.List.{All, position_or_len}
+use Rattle.gf16.specs.Field.{IsSymbol}
+use Rattle.gf16.specs.Sums.{plus_scaled}
+use Rattle.linear_spec.specs.declared.packet.Packet.{Packet}
+use Rattle.linear_spec.specs.Packet.{Fits, vector_of, vectors_of}
+use Rattle.linear_spec.specs.Span.{InSpan}
+
+-- the column of a row's first coefficient that is not 0, or the number of coefficients where all are
+abbrev pub pivot_of : Packet → ℕ
+pivot_of row = position_or_len (λ symbol. not (symbol == 0)) row.coeffs
+
+-- a row stands for a packet after earlier packets and their rows: some nonzero multiple of the packet, added to the row,
+-- lies in the span of the earlier packets; the row's first coefficient that is not 0 is 1, at its pivot; and the row is 0
+-- at the pivots of the earlier rows
+pub record StandsFor (k s : ℕ) (packets rows : List Packet) (packet row : Packet) : Type 0 where
+  pub fits : Fits k s row
+  pub multiple : ℕ
+  pub multiple_is_symbol : IsSymbol multiple
+  pub multiple_is_not_zero : multiple ≢ 0
+  pub in_span : InSpan (k + s) (vectors_of packets) (plus_scaled (vector_of row) multiple (vector_of packet))
+  pub pivot_below : pivot_of row < k
+  pub one_at_pivot : slice_index row.coeffs (pivot_of row) ≡ 1
+  pub cleared : All (λ earlier. slice_index row.coeffs (pivot_of earlier) ≡ 0) rows
+
+-- the rows stand for the packets, each after those before it
+pub record StandForAll (k s : ℕ) (packets rows : List Packet) : Type 0 where
+  pub count : length rows ≡ length packets
+  pub each : (i : ℕ) (packet row : Packet) → i < length packets
+      → StandsFor k s (take i packets) (take i rows) (slice_index_or packets i packet) (slice_index_or rows i row)
+
+-- the columns that are the pivot of no row
+abbrev pub IsMissing : List Packet → ℕ → Type 0
+IsMissing rows column = All (λ row. pivot_of row ≢ column) rows
+
+-- a vector reduced by rows, row after row: the row times the symbol at its pivot is subtracted, which is to add it
+abbrev pub remainder_of : List Packet → List ℕ → List ℕ
+remainder_of [] vector = vector
+remainder_of (row ∷ rows) vector = remainder_of rows (plus_scaled vector (slice_index vector (pivot_of row)) (vector_of row))

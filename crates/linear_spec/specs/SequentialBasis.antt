@@ -1,0 +1,46 @@
+-- The sequential basis: what one thread would keep and answer. Its state is a list of records; it knows no rows and no
+-- pivots.
+use Rattle.std.specs.Prelude.{◌≡◌, ℕ, ◌<◌, List, [], ◌∷◌, ◌++◌, length, map}
+use Rattle.linear_spec.specs.declared.equations.Equations.{Equations}
+use Rattle.linear_spec.specs.declared.packet.Packet.{Packet}
+use Rattle.linear_spec.specs.declared.record.Record.{Record}
+use Rattle.linear_spec.specs.declared.record.Drawn.{Drawn}
+use Rattle.linear_spec.specs.declared.record.Drawn.TheVariants.{Sent, Nothing}
+use Rattle.linear_spec.specs.declared.reply.Reply.{Reply}
+use Rattle.linear_spec.specs.declared.reply.Reply.TheVariants.{FailedCheck, Innovative, NotInnovative, Conflicting}
+use Rattle.linear_spec.specs.Passing.{Passes, IsFirstFailing}
+use Rattle.linear_spec.specs.Cases.{IsFresh, IsWithin, IsConflicting}
+
+abbrev pub packets_of : List Record → List Packet
+packets_of records = map (λ record'. record'.packet) records
+
+-- the reply to a packet that passes: its case at the front, with the number of the front's packets
+abbrev pub IsCaseReply : ℕ → ℕ → List Packet → Packet → Reply → Type 0
+IsCaseReply k s front packet (FailedCheck check at) = ⊥
+IsCaseReply k s front packet (Innovative at) = IsFresh k front packet × (at ≡ length front)
+IsCaseReply k s front packet (NotInnovative at) = IsWithin k s front packet × (at ≡ length front)
+IsCaseReply k s front packet (Conflicting at) = IsConflicting k s front packet × (at ≡ length front)
+
+-- the reply to an offer of a packet at a front: the first check that it fails, or else its case there
+abbrev pub IsReply : Equations → List Packet → Packet → Reply → Type 0
+IsReply equations front packet (FailedCheck check at) = IsFirstFailing equations packet check × (at ≡ length front)
+IsReply equations front packet (Innovative at) = Passes equations packet × IsCaseReply equations.k equations.s front packet (Innovative at)
+IsReply equations front packet (NotInnovative at) = Passes equations packet × IsCaseReply equations.k equations.s front packet (NotInnovative at)
+IsReply equations front packet (Conflicting at) = Passes equations packet × IsCaseReply equations.k equations.s front packet (Conflicting at)
+
+-- what an offer of this adds after a reply: an innovative one, and no other
+abbrev pub recorded : {X : Type 0} → X → Reply → List X
+recorded offered (FailedCheck check at) = []
+recorded offered (Innovative at) = offered ∷ []
+recorded offered (NotInnovative at) = []
+recorded offered (Conflicting at) = []
+
+-- an offer by a caller, as the caller's call of this number
+pub record IsOffer (equations : Equations) (before : List Record) (caller call : ℕ) (packet : Packet) (reply : Reply) (after : List Record) : Type 0 where
+  pub reply_is : IsReply equations (packets_of before) packet reply
+  pub after_is : after ≡ before ++ recorded (record { caller = caller; call = call; packet = packet }) reply
+
+-- what a draw gives at these records: nothing where there are none
+abbrev pub IsDraw : List Record → Drawn → Type 0
+IsDraw records (Sent front) = (0 < length records) × (front ≡ length records)
+IsDraw records Nothing = length records ≡ 0

@@ -1,0 +1,12 @@
+-- Blocks that solve a list of packets.
+use Rattle.std.specs.Prelude.{◌≡◌, ℕ, List, length}
+use Rattle.std.specs.List.{All}
+use Rattle.linear_spec.specs.declared.packet.Packet.{Packet}
+use Rattle.linear_spec.specs.Packet.{IsTrueTo}
+use Rattle.linear_spec.specs.Symbols.{IsVector}
+
+-- k blocks of s symbols, and each packet's payload is their combination with its coefficients
+pub record Solve (k s : ℕ) (packets : List Packet) (blocks : List (List ℕ)) : Type 0 where
+  pub count : length blocks ≡ k
+  pub vectors : All (IsVector s) blocks
+  pub true_to : All (IsTrueTo s blocks) packets

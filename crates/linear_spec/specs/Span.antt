@@ -1,0 +1,21 @@
+-- The span and the rank of a list of vectors of n symbols.
+use Rattle.std.specs.Prelude.{◌≡◌, ◌⊎◌, ℕ, suc, List, [], ◌∷◌, ◌++◌, length}
+use Rattle.linear_spec.specs.Symbols.{IsVector}
+use Rattle.linear_spec.specs.Combination.{combination_of}
+
+-- some list of as many symbols combines the vectors to this one
+pub record InSpan (n : ℕ) (vectors : List (List ℕ)) (vector : List ℕ) : Type 0 where
+  pub coefficients : List ℕ
+  pub are_symbols : IsVector (length vectors) coefficients
+  pub combine : combination_of n coefficients vectors ≡ vector
+
+-- r of the vectors do not lie in the span of those before them, where others stand before all
+abbrev pub HasRankAfter : ℕ → List (List ℕ) → List (List ℕ) → ℕ → Type 0
+HasRankAfter n before [] r = r ≡ 0
+HasRankAfter n before (vector ∷ vectors) r =
+    (InSpan n before vector × HasRankAfter n (before ++ vector ∷ []) vectors r)
+    ⊎ ((¬ InSpan n before vector) × (q : ℕ) × (r ≡ suc q) × HasRankAfter n (before ++ vector ∷ []) vectors q)
+
+-- the rank: the number of members that do not lie in the span of the members before them
+abbrev pub HasRank : ℕ → List (List ℕ) → ℕ → Type 0
+HasRank n vectors r = HasRankAfter n [] vectors r
