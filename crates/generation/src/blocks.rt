@@ -34,8 +34,6 @@ impl Shape {
     }
 
     /// The file of all blocks in order, generation after generation.
-    ///
-    /// At no time is more held than the file and one block.
     #[tactic(auto, unfolding(crate::specs::Blocks::file_of))]
     pub fn join_blocks(&self, alloc: Global, blocks: &List<SymVec>) -> Result<List<u8>, Memory>
         requires { AreBlocks self.now blocks.now.items }

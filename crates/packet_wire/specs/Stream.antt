@@ -27,6 +27,7 @@ ticket_body ticket = ticket.key ++ (ticket.checks ∷ be_bytes_of ticket.sums)
 unfoldable pub packet_body : Packet → List ℕ
 packet_body packet = to_be_bytes w16 packet.generation ++ (be_bytes_of packet.coeffs ++ be_bytes_of packet.payload)
 
+-- the frames of each
 abbrev pub manifest_frame : Manifest → List ℕ
 manifest_frame manifest = frame (number_of kinds.Manifest) (manifest_body manifest)
 
@@ -67,9 +68,11 @@ pub record Contents : Type 0 where
   pub ticket : Ticket
   pub packets : List Packet
 
+-- what a stream that was read holds
 abbrev pub contents_of : Stream → Contents
 contents_of stream = record { manifest = stream.manifest; ticket = stream.ticket; packets = stream.packets.items }
 
+-- the bytes of a stream: one frame after another
 unfoldable pub spelling_of : Contents → List ℕ
 spelling_of contents =
     manifest_frame contents.manifest ++ (ticket_frame contents.ticket ++ (flat_map packet_frame contents.packets ++ end_frame))
