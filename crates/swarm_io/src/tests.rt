@@ -58,3 +58,16 @@ fn writes_piece_by_piece(rt: HostRuntime) -> Result<(), Fail> {
     assert_eq!(rt; sink.bytes(), b"abc".as_slice());
     Ok(())
 }
+
+#[test]
+fn steady_forms_move_at_most_their_piece(rt: HostRuntime) -> Result<(), Fail> {
+    let mut bytes = List::new(rt.alloc());
+    bytes.extend_from_slice(b"abcde")?;
+    let mut source = SteadySource::new(bytes, 2);
+    let mut buf = [0; 5];
+    assert_eq!(rt; source.read(&mut buf), Ok(2));
+    let mut sink = SteadySink::new(rt.alloc(), 2);
+    assert_eq!(rt; sink.write(b"abcde"), Ok(2));
+    assert_eq!(rt; sink.bytes(), b"ab".as_slice());
+    Ok(())
+}
