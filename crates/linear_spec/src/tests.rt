@@ -1,4 +1,9 @@
+ghost use Rattle.std.specs.Prelude.{length, IfOk};
+ghost use Rattle.linear_spec.specs.Packet.{Fits};
+
 use super::*;
+use gf16::Memory;
+use std::alloc::Global;
 use std::test::Fail;
 
 #[test]
@@ -44,5 +49,32 @@ fn words_are_texts(rt: HostRuntime) -> Result<(), Fail> {
     assert_eq!(rt; words.len(), 2);
     assert_eq!(rt; words.get(0).ok_or("a word")?, "fetch");
     assert!(rt; words.get(2).is_none());
+    Ok(())
+}
+
+fn packet_of(alloc: Global, coeffs: &[u16], payload: &[u16]) -> Result<Packet, Memory>
+    ensures { IfOk result (Fits (length coeffs.now) (length payload.now)) }
+{
+    let packet = Packet {
+        generation: 7,
+        coeffs: SymVec::from_slice(alloc, coeffs)?,
+        payload: SymVec::from_slice(alloc, payload)?,
+    };
+    laws::packet_fits(&packet);
+    Ok(packet)
+}
+
+#[test]
+fn combines_two_packets(rt: HostRuntime) -> Result<(), Fail> {
+    let alloc = rt.alloc();
+    let mut packets = List::new(alloc);
+    packets.push(packet_of(alloc, &[1, 0], &[0x6162])?)?;
+    packets.push(packet_of(alloc, &[0, 1], &[0x6300])?)?;
+    let mut out = packet_of(alloc, &[5, 5], &[5])?;
+    combine(&[1, 2], &packets, &mut out);
+    let copied = out.copy(alloc)?;
+    assert_eq!(rt; copied.generation, 7);
+    assert_eq!(rt; copied.coeffs.as_slice(), [1, 2].as_slice());
+    assert_eq!(rt; copied.payload.as_slice(), [0xA762].as_slice());
     Ok(())
 }
