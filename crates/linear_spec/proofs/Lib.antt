@@ -1,1 +1,4 @@
+pub mod Equations
+pub mod Places
+pub mod SpanLaws
 pub mod SymbolLemmas
