@@ -37,6 +37,15 @@ module _ (field : IsField) where
           let rest = at n u (omega arith) in
           cc
 
+  pub plus_self : (n : ℕ) (v : List ℕ) → IsVector n v → plus_scaled v 1 v ≡ replicate n 0
+  plus_self n v by_v =
+      let one : IsSymbol 1 = lit< tt in
+      same_vectors n (plus_scaled v 1 v) (replicate n 0) (IsVector-plus_scaled field n 1 v v one by_v) (IsVector-zero n)
+      (λ i.
+          let a = get_or v i 0 in
+          at_plus_scaled n 1 v v i by_v by_v ∙ ap (sum_of a) (field.one_product a (symbol_at n v i by_v)) ∙ field.sum_self a
+          ∙ sym (get_or-zero n i))
+
   -- u + (u + v) = v
   pub plus_twice : (n : ℕ) (u v : List ℕ) → IsVector n u → IsVector n v → plus_scaled u 1 (plus_scaled u 1 v) ≡ v
   plus_twice n u v by_u by_v =

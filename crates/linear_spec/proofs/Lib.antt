@@ -1,4 +1,7 @@
+pub mod Echelon
 pub mod Equations
+pub mod Heads
 pub mod Places
+pub mod RowSpans
 pub mod SpanLaws
 pub mod SymbolLemmas
