@@ -6,3 +6,4 @@ pub mod RowPlaces
 pub mod RowSpans
 pub mod SpanLaws
 pub mod SymbolLemmas
+pub mod VectorLaws

@@ -1,50 +1,232 @@
--- The laws of combinations and spans.
-use Rattle.std.proofs.Common.{◌≡◌, ℕ, ◌+◌, List, [], ◌∷◌, ◌++◌, length, take, map, replicate}
-use Rattle.std.specs.List.{All}
-use Rattle.gf16.specs.Field.{IsSymbol, IsField}
-use Rattle.gf16.specs.Sums.{plus_scaled, scaled}
+-- Combinations, vector by vector, and the laws of the span of vectors of n symbols.
+use Rattle.std.proofs.Common.{◌≡◌, ℕ, zero, suc, ◌+◌, ◌<◌, ◌≤◌, ◌^◌, List, [], ◌∷◌, ◌++◌, length, get_or, take, replicate, map, refl, ap, ap₂, sym, subst, ◌∙◌, arith, lit<, append_assoc, append-nil}
+use Rattle.std.specs.List.{All, range_with_len}
+use Rattle.std.proofs.lemmas.List.{length-replicate, length-map, length-take-le, take-replicate, ext_get_or, get_or-replicate}
+use Rattle.std.proofs.lemmas.List.FromFn.{length-map-range_with_len, get_or-map-range_with_len}
+use Rattle.std.proofs.lemmas.List.Elements.{All-nil, All-cons, All-head, All-tail, All-append, All-take}
+use Rattle.gf16.specs.Field.{IsSymbol, IsField, sum_of, product_of}
+use Rattle.gf16.specs.Sums.{scaled, plus_scaled, dot_of}
 use Rattle.linear_spec.specs.Symbols.{AreSymbols, IsVector}
-use Rattle.linear_spec.specs.Combination.{combination_of}
+use Rattle.linear_spec.specs.Combination.{column_of, combination_of}
 use Rattle.linear_spec.specs.Span.{InSpan}
+pub use Rattle.linear_spec.proofs.VectorLaws.{length-plus_scaled, take-plus_scaled, drop-plus_scaled, append-plus_scaled, plus_scaled-zero, plus_scaled-zeros, zeros-plus_scaled, plus_scaled-twice, plus_scaled-commutes, plus_scaled-plus_scaled, plus_scaled-sum, plus_scaled-scaled, scaled-scaled, scaled-zeros, scaled-plus_scaled, scaled-one, IsVector-plus_scaled, IsVector-scaled, IsVector-replicate, IsVector-nil, IsVector-cons, get_or-plus_scaled, get_or-scaled}
+
+-- ---- combinations
+
+dot-nil : (cs : List ℕ) → dot_of cs [] ≡ 0
+dot-nil [] = refl
+dot-nil (c ∷ cs) = refl
+
+pub length-combination : (n : ℕ) (cs : List ℕ) (vs : List (List ℕ)) → length (combination_of n cs vs) ≡ n
+unfolding combination_of
+length-combination n cs vs = length-map-range_with_len (λ place. dot_of cs (column_of place vs)) 0 n
+
+-- the symbol of a combination at a place
+pub get_or-combination : (n i : ℕ) (cs : List ℕ) (vs : List (List ℕ)) → i < n
+    → get_or (combination_of n cs vs) i 0 ≡ dot_of cs (column_of i vs)
+unfolding combination_of
+get_or-combination n i cs vs within = get_or-map-range_with_len (λ place. dot_of cs (column_of place vs)) 0 n i i 0 within (omega arith)
 
 pub combination-nil : (n : ℕ) (cs : List ℕ) → combination_of n cs [] ≡ replicate n 0
-combination-nil n cs = ?
+combination-nil n cs =
+    ext_get_or 0 (combination_of n cs []) (replicate n 0)
+    (length-combination n cs [] ∙ sym (length-replicate n 0))
+    (λ i within.
+      let below : i < n = omega (arith, length-combination n cs []) in
+      get_or-combination n i cs [] below ∙ dot-nil cs ∙ sym (get_or-replicate n i 0 0 below))
 
-pub combination-cons : (field : IsField) (n c : ℕ) (cs v : List ℕ) (vs : List (List ℕ)) → IsVector n v → combination_of n (c ∷ cs) (v ∷ vs) ≡ plus_scaled (combination_of n cs vs) c v
-combination-cons field n c cs v vs is_vector = ?
+pub combination-cons : (field : IsField) (n c : ℕ) (cs v : List ℕ) (vs : List (List ℕ)) → IsVector n v
+    → combination_of n (c ∷ cs) (v ∷ vs) ≡ plus_scaled (combination_of n cs vs) c v
+combination-cons field n c cs v vs vector =
+    ext_get_or 0 (combination_of n (c ∷ cs) (v ∷ vs)) (plus_scaled (combination_of n cs vs) c v)
+    (length-combination n (c ∷ cs) (v ∷ vs) ∙ sym (length-plus_scaled c (combination_of n cs vs) v ∙ length-combination n cs vs))
+    (λ i within.
+      let below : i < n = omega (arith, length-combination n (c ∷ cs) (v ∷ vs)) in
+      let inside : i < length (combination_of n cs vs) = omega (arith, length-combination n cs vs) in
+      get_or-combination n i (c ∷ cs) (v ∷ vs) below
+      ∙ field.sum_commutes (product_of c (get_or v i 0)) (dot_of cs (column_of i vs))
+      ∙ ap (λ x. sum_of x (product_of c (get_or v i 0))) (sym (get_or-combination n i cs vs below))
+      ∙ sym (get_or-plus_scaled field c i (combination_of n cs vs) v inside))
 
-pub IsVector-combination : (field : IsField) (n : ℕ) (cs : List ℕ) (vs : List (List ℕ)) → AreSymbols cs → All (IsVector n) vs → IsVector n (combination_of n cs vs)
-IsVector-combination field n cs vs symbols are_vectors = ?
+pub IsVector-combination : (field : IsField) (n : ℕ) (cs : List ℕ) (vs : List (List ℕ)) → AreSymbols cs → All (IsVector n) vs
+    → IsVector n (combination_of n cs vs)
+IsVector-combination field n cs [] symbols vectors = subst (IsVector n) (sym (combination-nil n cs)) (IsVector-replicate n)
+IsVector-combination field n [] (v ∷ vs) symbols vectors = subst (IsVector n) (sym (no_coefficients n v vs)) (IsVector-replicate n)
+  where
+    no_coefficients : (n : ℕ) (v : List ℕ) (vs : List (List ℕ)) → combination_of n [] (v ∷ vs) ≡ replicate n 0
+    no_coefficients n v vs =
+        ext_get_or 0 (combination_of n [] (v ∷ vs)) (replicate n 0)
+        (length-combination n [] (v ∷ vs) ∙ sym (length-replicate n 0))
+        (λ i within.
+          let below : i < n = omega (arith, length-combination n [] (v ∷ vs)) in
+          get_or-combination n i [] (v ∷ vs) below ∙ sym (get_or-replicate n i 0 0 below))
+IsVector-combination field n (c ∷ cs) (v ∷ vs) symbols vectors =
+    subst (IsVector n) (sym (combination-cons field n c cs v vs (All-head (IsVector n) v vs vectors)))
+    (IsVector-plus_scaled field n c (combination_of n cs vs) v
+     (IsVector-combination field n cs vs (All-tail IsSymbol c cs symbols) (All-tail (IsVector n) v vs vectors))
+     (All-head IsSymbol c cs symbols))
 
-pub IsVector-span : (field : IsField) (n : ℕ) (vs : List (List ℕ)) (v : List ℕ) → All (IsVector n) vs → InSpan n vs v → IsVector n v
-IsVector-span field n vs v are_vectors span = ?
-
-pub span-zero : (field : IsField) (n : ℕ) (vs : List (List ℕ)) → All (IsVector n) vs → InSpan n vs (replicate n 0)
-span-zero field n vs are_vectors = ?
+-- ---- spans, head by head
 
 pub span-empty : (n : ℕ) (v : List ℕ) → InSpan n [] v → v ≡ replicate n 0
-span-empty n v span = ?
+span-empty n v inside = sym inside.combine ∙ combination-nil n inside.coefficients
 
-pub span-plus_scaled : (field : IsField) (n c : ℕ) (vs : List (List ℕ)) (u v : List ℕ) → All (IsVector n) vs → IsSymbol c → InSpan n vs u → InSpan n vs v → InSpan n vs (plus_scaled u c v)
-span-plus_scaled field n c vs u v are_vectors symbol one other = ?
+-- a vector of the span of the later ones, and a multiple of the first
+pub span-head : (field : IsField) (n : ℕ) (w : List ℕ) (vs : List (List ℕ)) (v : List ℕ) → IsVector n w → InSpan n (w ∷ vs) v
+    → (c : ℕ) × (u : List ℕ) × IsSymbol c × InSpan n vs u × (v ≡ plus_scaled u c w)
+span-head field n w vs v vector inside = split inside.coefficients inside.are_symbols inside.combine
+  where
+    split : (cs : List ℕ) → IsVector (suc (length vs)) cs → combination_of n cs (w ∷ vs) ≡ v
+        → (c : ℕ) × (u : List ℕ) × IsSymbol c × InSpan n vs u × (v ≡ plus_scaled u c w)
+    split [] are combine = absurd (omega (arith, are.count))
+    split (c ∷ cs) are combine =
+        (c, combination_of n cs vs, All-head IsSymbol c cs are.symbols,
+         record { coefficients = cs; are_symbols = record { count = omega (arith, are.count); symbols = All-tail IsSymbol c cs are.symbols }; combine = refl },
+         sym combine ∙ combination-cons field n c cs w vs vector)
 
-pub span-scaled : (field : IsField) (n c : ℕ) (vs : List (List ℕ)) (v : List ℕ) → All (IsVector n) vs → IsSymbol c → InSpan n vs v → InSpan n vs (scaled c v)
-span-scaled field n c vs v are_vectors symbol span = ?
+pub span-head_from : (field : IsField) (n c : ℕ) (w : List ℕ) (vs : List (List ℕ)) (u : List ℕ) → IsVector n w → IsSymbol c → InSpan n vs u
+    → InSpan n (w ∷ vs) (plus_scaled u c w)
+span-head_from field n c w vs u vector symbol inside = record {
+  coefficients = c ∷ inside.coefficients;
+  are_symbols = IsVector-cons (length vs) c inside.coefficients symbol inside.are_symbols;
+  combine = combination-cons field n c inside.coefficients w vs vector ∙ ap (λ x. plus_scaled x c w) inside.combine;
+}
 
-pub span-member : (field : IsField) (n : ℕ) (front back : List (List ℕ)) (v : List ℕ) → All (IsVector n) (front ++ v ∷ back) → InSpan n (front ++ v ∷ back) v
-span-member field n front back v are_vectors = ?
+pub span-same : (n : ℕ) (vs : List (List ℕ)) (u v : List ℕ) → u ≡ v → InSpan n vs u → InSpan n vs v
+span-same n vs u v same inside = subst (InSpan n vs) same inside
+
+-- ---- spans, for vectors of n symbols
+
+pub IsVector-span : (field : IsField) (n : ℕ) (vs : List (List ℕ)) (v : List ℕ) → All (IsVector n) vs → InSpan n vs v → IsVector n v
+IsVector-span field n vs v vectors inside =
+    subst (IsVector n) inside.combine (IsVector-combination field n inside.coefficients vs inside.are_symbols.symbols vectors)
+
+pub span-zero : (field : IsField) (n : ℕ) (vs : List (List ℕ)) → All (IsVector n) vs → InSpan n vs (replicate n 0)
+span-zero field n [] vectors = record { coefficients = []; are_symbols = IsVector-nil; combine = combination-nil n [] }
+span-zero field n (w ∷ vs) vectors =
+    span-same n (w ∷ vs) (plus_scaled (replicate n 0) 0 w) (replicate n 0) (plus_scaled-zero field (replicate n 0) w)
+    (span-head_from field n 0 w vs (replicate n 0) (All-head (IsVector n) w vs vectors) (lit< tt)
+     (span-zero field n vs (All-tail (IsVector n) w vs vectors)))
+
+-- a span is that of fewer vectors too
+pub span-skip : (field : IsField) (n : ℕ) (w : List ℕ) (vs : List (List ℕ)) (v : List ℕ) → IsVector n w → InSpan n vs v → InSpan n (w ∷ vs) v
+span-skip field n w vs v vector inside =
+    span-same n (w ∷ vs) (plus_scaled v 0 w) v (plus_scaled-zero field v w) (span-head_from field n 0 w vs v vector (lit< tt) inside)
+
+pub span-plus_scaled : (field : IsField) (n c : ℕ) (vs : List (List ℕ)) (u v : List ℕ) → All (IsVector n) vs → IsSymbol c
+    → InSpan n vs u → InSpan n vs v → InSpan n vs (plus_scaled u c v)
+span-plus_scaled field n c [] u v vectors symbol first second =
+    span-same n [] u (plus_scaled u c v)
+    (sym (ap (plus_scaled u c) (span-empty n v second) ∙ plus_scaled-zeros field c n u)) first
+span-plus_scaled field n c (w ∷ vs) u v vectors symbol first second =
+    let vector = All-head (IsVector n) w vs vectors in
+    let rest = All-tail (IsVector n) w vs vectors in
+    let left = span-head field n w vs u vector first in
+    let right = span-head field n w vs v vector second in
+    combined left.0 right.0 left.1 right.1 vector left.2 right.2 (IsVector-span field n vs right.1 rest right.3) left.4 right.4
+    (span-plus_scaled field n c vs left.1 right.1 rest symbol left.3 right.3)
+  where
+    combined : (a b : ℕ) (x y : List ℕ) → IsVector n w → IsSymbol a → IsSymbol b → IsVector n y
+        → u ≡ plus_scaled x a w → v ≡ plus_scaled y b w → InSpan n vs (plus_scaled x c y) → InSpan n (w ∷ vs) (plus_scaled u c v)
+    combined a b x y vector a_symbol b_symbol y_vector u_is v_is sum_in =
+        span-same n (w ∷ vs) (plus_scaled (plus_scaled x c y) (sum_of a (product_of c b)) w) (plus_scaled u c v)
+        (sym
+         (ap₂ (λ p q. plus_scaled p c q) u_is v_is
+          ∙ plus_scaled-plus_scaled field c b (plus_scaled x a w) y w symbol (y_vector.count ∙ sym vector.count)
+          ∙ ap (λ p. plus_scaled p (product_of c b) w) (plus_scaled-commutes field a c x w y)
+          ∙ plus_scaled-sum field a (product_of c b) (plus_scaled x c y) w))
+        (span-head_from field n (sum_of a (product_of c b)) w vs (plus_scaled x c y) vector
+         (field.sum_closed a (product_of c b) a_symbol (field.product_closed c b symbol)) sum_in)
+
+pub span-scaled : (field : IsField) (n c : ℕ) (vs : List (List ℕ)) (v : List ℕ) → All (IsVector n) vs → IsSymbol c
+    → InSpan n vs v → InSpan n vs (scaled c v)
+span-scaled field n c vs v vectors symbol inside =
+    let vector = IsVector-span field n vs v vectors inside in
+    span-same n vs (plus_scaled (replicate n 0) c v) (scaled c v) (zeros-plus_scaled field n c v vector.count)
+    (span-plus_scaled field n c vs (replicate n 0) v vectors symbol (span-zero field n vs vectors) inside)
+
+pub span-member : (field : IsField) (n : ℕ) (front back : List (List ℕ)) (v : List ℕ) → All (IsVector n) (front ++ v ∷ back)
+    → InSpan n (front ++ v ∷ back) v
+span-member field n [] back v vectors =
+    let vector = All-head (IsVector n) v back vectors in
+    span-same n (v ∷ back) (plus_scaled (replicate n 0) 1 v) v
+    (zeros-plus_scaled field n 1 v vector.count ∙ scaled-one field v vector.symbols)
+    (span-head_from field n 1 v back (replicate n 0) vector (lit< tt) (span-zero field n back (All-tail (IsVector n) v back vectors)))
+span-member field n (w ∷ front) back v vectors =
+    span-skip field n w (front ++ v ∷ back) v (All-head (IsVector n) w (front ++ v ∷ back) vectors)
+    (span-member field n front back v (All-tail (IsVector n) w (front ++ v ∷ back) vectors))
+
+pub span-closed : (field : IsField) (n : ℕ) (vs ws : List (List ℕ)) (v : List ℕ) → All (IsVector n) vs → All (IsVector n) ws
+    → All (InSpan n ws) vs → InSpan n vs v → InSpan n ws v
+span-closed field n [] ws v vectors others inner inside =
+    span-same n ws (replicate n 0) v (sym (span-empty n v inside)) (span-zero field n ws others)
+span-closed field n (w ∷ vs) ws v vectors others inner inside =
+    let part = span-head field n w vs v (All-head (IsVector n) w vs vectors) inside in
+    span-same n ws (plus_scaled part.1 part.0 w) v (sym part.4)
+    (span-plus_scaled field n part.0 ws part.1 w others part.2
+     (span-closed field n vs ws part.1 (All-tail (IsVector n) w vs vectors) others (All-tail (InSpan n ws) w vs inner) part.3)
+     (All-head (InSpan n ws) w vs inner))
 
 pub span-grows : (field : IsField) (n : ℕ) (vs ws : List (List ℕ)) (v : List ℕ) → All (IsVector n) (vs ++ ws) → InSpan n vs v → InSpan n (vs ++ ws) v
-span-grows field n vs ws v are_vectors span = ?
+span-grows field n [] ws v vectors inside = span-same n ws (replicate n 0) v (sym (span-empty n v inside)) (span-zero field n ws vectors)
+span-grows field n (w ∷ vs) ws v vectors inside =
+    let vector = All-head (IsVector n) w (vs ++ ws) vectors in
+    let part = span-head field n w vs v vector inside in
+    span-same n (w ∷ vs ++ ws) (plus_scaled part.1 part.0 w) v (sym part.4)
+    (span-head_from field n part.0 w (vs ++ ws) part.1 vector part.2
+     (span-grows field n vs ws part.1 (All-tail (IsVector n) w (vs ++ ws) vectors) part.3))
 
-pub span-closed : (field : IsField) (n : ℕ) (vs ws : List (List ℕ)) (v : List ℕ) → All (IsVector n) vs → All (IsVector n) ws → All (InSpan n ws) vs → InSpan n vs v → InSpan n ws v
-span-closed field n vs ws v are_vectors others_are_vectors within span = ?
+-- ---- one vector more, at the end
 
-pub span-last : (field : IsField) (n : ℕ) (vs : List (List ℕ)) (w v : List ℕ) → All (IsVector n) vs → IsVector n w → InSpan n (vs ++ w ∷ []) v → (c : ℕ) × IsSymbol c × InSpan n vs (plus_scaled v c w)
-span-last field n vs w v are_vectors is_vector span = ?
+pub span-last : (field : IsField) (n : ℕ) (vs : List (List ℕ)) (w v : List ℕ) → All (IsVector n) vs → IsVector n w
+    → InSpan n (vs ++ w ∷ []) v → (c : ℕ) × IsSymbol c × InSpan n vs (plus_scaled v c w)
+span-last field n [] w v vectors vector inside =
+    let part = span-head field n w [] v vector inside in
+    (part.0, part.2,
+     span-same n [] part.1 (plus_scaled v part.0 w)
+     (sym (ap (λ x. plus_scaled x part.0 w) part.4 ∙ plus_scaled-twice field part.0 part.1 w)) part.3)
+span-last field n (u ∷ vs) w v vectors vector inside =
+    let head = All-head (IsVector n) u vs vectors in
+    let part = span-head field n u (vs ++ w ∷ []) v head inside in
+    let rest = span-last field n vs w part.1 (All-tail (IsVector n) u vs vectors) vector part.3 in
+    (rest.0, rest.1,
+     span-same n (u ∷ vs) (plus_scaled (plus_scaled part.1 rest.0 w) part.0 u) (plus_scaled v rest.0 w)
+     (plus_scaled-commutes field rest.0 part.0 part.1 w u ∙ ap (λ x. plus_scaled x rest.0 w) (sym part.4))
+     (span-head_from field n part.0 u vs (plus_scaled part.1 rest.0 w) head part.2 rest.2))
 
-pub span-last_from : (field : IsField) (n c : ℕ) (vs : List (List ℕ)) (w v : List ℕ) → All (IsVector n) vs → IsVector n w → IsVector n v → IsSymbol c → InSpan n vs (plus_scaled v c w) → InSpan n (vs ++ w ∷ []) v
-span-last_from field n c vs w v are_vectors is_vector of_v symbol span = ?
+pub span-last_from : (field : IsField) (n c : ℕ) (vs : List (List ℕ)) (w v : List ℕ) → All (IsVector n) vs → IsVector n w → IsVector n v
+    → IsSymbol c → InSpan n vs (plus_scaled v c w) → InSpan n (vs ++ w ∷ []) v
+span-last_from field n c vs w v vectors vector own symbol inside =
+    let all = All-append (IsVector n) vs (w ∷ []) vectors (All-cons (IsVector n) w [] vector (All-nil (IsVector n))) in
+    span-same n (vs ++ w ∷ []) (plus_scaled (plus_scaled v c w) c w) v (plus_scaled-twice field c v w)
+    (span-plus_scaled field n c (vs ++ w ∷ []) (plus_scaled v c w) w all symbol
+     (span-grows field n vs (w ∷ []) (plus_scaled v c w) all inside)
+     (span-member field n vs [] w all))
 
-pub span-take : (field : IsField) (k s : ℕ) (vs : List (List ℕ)) (v : List ℕ) → All (IsVector (k + s)) vs → InSpan (k + s) vs v → InSpan k (map (take k) vs) (take k v)
-span-take field k s vs v are_vectors span = ?
+-- ---- the first k symbols
+
+pub IsVector-take : (k s : ℕ) (v : List ℕ) → IsVector (k + s) v → IsVector k (take k v)
+IsVector-take k s v vector = record {
+  count = length-take-le k v (omega (arith, vector.count));
+  symbols = All-take IsSymbol k v vector.symbols;
+}
+
+pub take-combination : (field : IsField) (k s : ℕ) (cs : List ℕ) (vs : List (List ℕ)) → All (IsVector (k + s)) vs
+    → length cs ≡ length vs → combination_of k cs (map (take k) vs) ≡ take k (combination_of (k + s) cs vs)
+take-combination field k s cs [] vectors same =
+    combination-nil k cs ∙ sym (take-replicate k (k + s) 0 (omega arith)) ∙ ap (take k) (sym (combination-nil (k + s) cs))
+take-combination field k s [] (v ∷ vs) vectors same = absurd (omega arith)
+take-combination field k s (c ∷ cs) (v ∷ vs) vectors same =
+    let vector = All-head (IsVector (k + s)) v vs vectors in
+    combination-cons field k c cs (take k v) (map (take k) vs) (IsVector-take k s v vector)
+    ∙ ap (λ x. plus_scaled x c (take k v)) (take-combination field k s cs vs (All-tail (IsVector (k + s)) v vs vectors) (omega arith))
+    ∙ sym (take-plus_scaled k c (combination_of (k + s) cs vs) v)
+    ∙ ap (take k) (sym (combination-cons field (k + s) c cs v vs vector))
+
+pub span-take : (field : IsField) (k s : ℕ) (vs : List (List ℕ)) (v : List ℕ) → All (IsVector (k + s)) vs → InSpan (k + s) vs v
+    → InSpan k (map (take k) vs) (take k v)
+span-take field k s vs v vectors inside = record {
+  coefficients = inside.coefficients;
+  are_symbols = record { count = inside.are_symbols.count ∙ sym (length-map vs (take k)); symbols = inside.are_symbols.symbols };
+  combine = take-combination field k s inside.coefficients vs vectors inside.are_symbols.count ∙ ap (take k) inside.combine;
+}
