@@ -1,3 +1,4 @@
+pub mod Decision
 pub mod Echelon
 pub mod Equations
 pub mod Heads
