@@ -5,6 +5,7 @@ pub mod Heads
 pub mod Places
 pub mod RowPlaces
 pub mod RowSpans
+pub mod SpanDecides
 pub mod SpanLaws
 pub mod SymbolLemmas
 pub mod VectorLaws
