@@ -3,6 +3,7 @@ pub mod Echelon
 pub mod Equations
 pub mod Heads
 pub mod Places
+pub mod RankBounds
 pub mod Ranks
 pub mod RowPlaces
 pub mod RowSpans

@@ -31,10 +31,10 @@ echelon_from_places n view (row ∷ rows) places = (
 )
 
 module _ (k s : ℕ) (packets rows : List Packet) (stand : StandForAll k s packets rows) where
-  row_at : (i : ℕ) (d : Packet) → i < length rows → StandsFor k s (take i packets) (take i rows) (get_or packets i d) (get_or rows i d)
+  pub row_at : (i : ℕ) (d : Packet) → i < length rows → StandsFor k s (take i packets) (take i rows) (get_or packets i d) (get_or rows i d)
   row_at i d h = let count = stand.count in stand.each i d d (omega arith)
 
-  cleared_at : (i j : ℕ) (d : Packet) → i < j → j < length rows → get_or (get_or rows j d).coeffs (pivot_of (get_or rows i d)) 0 ≡ 0
+  pub cleared_at : (i j : ℕ) (d : Packet) → i < j → j < length rows → get_or (get_or rows j d).coeffs (pivot_of (get_or rows i d)) 0 ≡ 0
   cleared_at i j d h l =
       let inside : i < length (take j rows) = omega (arith, length-take j rows) in
       let same = get_or-take j rows i d h in

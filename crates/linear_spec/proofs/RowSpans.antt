@@ -33,7 +33,7 @@ span-members field n vs are i default below =
     (span-member field n (take i vs) (drop (suc i) vs) v (subst (All (IsVector n)) (sym split) are))
 
 module _ (field : IsField) (n : ℕ) where
-  same_span_push : (vs ws : List (List ℕ)) (v w : List ℕ) (m : ℕ) → All (IsVector n) vs → All (IsVector n) ws → IsVector n v → IsVector n w
+  pub same_span_push : (vs ws : List (List ℕ)) (v w : List ℕ) (m : ℕ) → All (IsVector n) vs → All (IsVector n) ws → IsVector n v → IsVector n w
       → IsSymbol m → m ≢ 0 → InSpan n vs (plus_scaled w m v) → IsSameSpan n vs ws → IsSameSpan n (vs ++ v ∷ []) (ws ++ w ∷ [])
   same_span_push vs ws v w m by_vs by_ws by_v by_w by_m some sum same =
       let by_more = All-push (IsVector n) vs v by_vs by_v in
