@@ -7,6 +7,7 @@ pub mod RankBounds
 pub mod Ranks
 pub mod RowPlaces
 pub mod RowSpans
+pub mod SpanChanges
 pub mod SpanDecides
 pub mod SpanLaws
 pub mod SymbolLemmas

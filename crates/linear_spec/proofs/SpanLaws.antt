@@ -1,7 +1,7 @@
 -- Combinations, vector by vector, and the laws of the span of vectors of n symbols.
 use Rattle.std.proofs.Common.{◌≡◌, ℕ, zero, suc, ◌+◌, ◌<◌, ◌≤◌, ◌^◌, List, [], ◌∷◌, ◌++◌, length, get_or, take, replicate, map, refl, ap, ap₂, sym, subst, ◌∙◌, arith, lit<, append_assoc, append-nil}
 use Rattle.std.specs.List.{All, range_with_len}
-use Rattle.std.proofs.lemmas.List.{length-replicate, length-map, length-take-le, take-replicate, ext_get_or, get_or-replicate}
+use Rattle.std.proofs.lemmas.List.{length-replicate, length-map, length-take, length-take-le, take_more, take-replicate, ext_get_or, get_or-replicate}
 use Rattle.std.proofs.lemmas.List.FromFn.{length-map-range_with_len, get_or-map-range_with_len}
 use Rattle.std.proofs.lemmas.List.Elements.{All-nil, All-cons, All-head, All-tail, All-append, All-take}
 use Rattle.gf16.specs.Field.{IsSymbol, IsField, sum_of, product_of}
@@ -9,7 +9,7 @@ use Rattle.gf16.specs.Sums.{scaled, plus_scaled, dot_of}
 use Rattle.linear_spec.specs.Symbols.{AreSymbols, IsVector}
 use Rattle.linear_spec.specs.Combination.{column_of, combination_of}
 use Rattle.linear_spec.specs.Span.{InSpan}
-pub use Rattle.linear_spec.proofs.VectorLaws.{length-plus_scaled, take-plus_scaled, drop-plus_scaled, append-plus_scaled, plus_scaled-zero, plus_scaled-zeros, zeros-plus_scaled, plus_scaled-twice, plus_scaled-commutes, plus_scaled-plus_scaled, plus_scaled-sum, plus_scaled-scaled, scaled-scaled, scaled-zeros, scaled-plus_scaled, scaled-one, IsVector-plus_scaled, IsVector-scaled, IsVector-replicate, IsVector-nil, IsVector-cons, get_or-plus_scaled, get_or-scaled}
+pub use Rattle.linear_spec.proofs.VectorLaws.{length-plus_scaled, take-plus_scaled, drop-plus_scaled, append-plus_scaled, plus_scaled-zero, plus_scaled-zeros, zeros-plus_scaled, plus_scaled-twice, plus_scaled-cancels, plus_scaled-commutes, plus_scaled-plus_scaled, plus_scaled-sum, plus_scaled-scaled, scaled-scaled, scaled-zeros, scaled-plus_scaled, scaled-one, IsVector-plus_scaled, IsVector-scaled, IsVector-replicate, IsVector-nil, IsVector-cons, get_or-plus_scaled, get_or-scaled}
 
 -- ---- combinations
 
@@ -32,21 +32,49 @@ combination-nil n cs =
     ext_get_or 0 (combination_of n cs []) (replicate n 0)
     (length-combination n cs [] ∙ sym (length-replicate n 0))
     (λ i within.
-      let below : i < n = omega (arith, length-combination n cs []) in
-      get_or-combination n i cs [] below ∙ dot-nil cs ∙ sym (get_or-replicate n i 0 0 below))
+    let below : i < n = omega (arith, length-combination n cs []) in
+    get_or-combination n i cs [] below ∙ dot-nil cs ∙ sym (get_or-replicate n i 0 0 below))
 
-pub combination-cons : (field : IsField) (n c : ℕ) (cs v : List ℕ) (vs : List (List ℕ)) → IsVector n v
+-- vectors of any lengths: a place that one lacks counts as 0 there
+pub combination-cons_any : (field : IsField) (n c : ℕ) (cs v : List ℕ) (vs : List (List ℕ))
     → combination_of n (c ∷ cs) (v ∷ vs) ≡ plus_scaled (combination_of n cs vs) c v
-combination-cons field n c cs v vs vector =
+combination-cons_any field n c cs v vs =
     ext_get_or 0 (combination_of n (c ∷ cs) (v ∷ vs)) (plus_scaled (combination_of n cs vs) c v)
     (length-combination n (c ∷ cs) (v ∷ vs) ∙ sym (length-plus_scaled c (combination_of n cs vs) v ∙ length-combination n cs vs))
     (λ i within.
-      let below : i < n = omega (arith, length-combination n (c ∷ cs) (v ∷ vs)) in
-      let inside : i < length (combination_of n cs vs) = omega (arith, length-combination n cs vs) in
-      get_or-combination n i (c ∷ cs) (v ∷ vs) below
-      ∙ field.sum_commutes (product_of c (get_or v i 0)) (dot_of cs (column_of i vs))
-      ∙ ap (λ x. sum_of x (product_of c (get_or v i 0))) (sym (get_or-combination n i cs vs below))
-      ∙ sym (get_or-plus_scaled field c i (combination_of n cs vs) v inside))
+    let below : i < n = omega (arith, length-combination n (c ∷ cs) (v ∷ vs)) in
+    let inside : i < length (combination_of n cs vs) = omega (arith, length-combination n cs vs) in
+    get_or-combination n i (c ∷ cs) (v ∷ vs) below
+    ∙ field.sum_commutes (product_of c (get_or v i 0)) (dot_of cs (column_of i vs))
+    ∙ ap (λ x. sum_of x (product_of c (get_or v i 0))) (sym (get_or-combination n i cs vs below))
+    ∙ sym (get_or-plus_scaled field c i (combination_of n cs vs) v inside))
+
+pub combination-cons : (field : IsField) (n c : ℕ) (cs v : List ℕ) (vs : List (List ℕ)) → IsVector n v
+    → combination_of n (c ∷ cs) (v ∷ vs) ≡ plus_scaled (combination_of n cs vs) c v
+combination-cons field n c cs v vs vector = combination-cons_any field n c cs v vs
+
+-- one vector more, at the end
+pub combination-push : (field : IsField) (n c : ℕ) (cs v : List ℕ) (vs : List (List ℕ)) → length cs ≡ length vs
+    → combination_of n (cs ++ c ∷ []) (vs ++ v ∷ []) ≡ plus_scaled (combination_of n cs vs) c v
+combination-push field n c [] v [] same =
+    combination-cons_any field n c [] v []
+combination-push field n c [] v (w ∷ vs) same = absurd (omega arith)
+combination-push field n c (d ∷ cs) v [] same = absurd (omega arith)
+combination-push field n c (d ∷ cs) v (w ∷ vs) same =
+    combination-cons_any field n d (cs ++ c ∷ []) w (vs ++ v ∷ [])
+    ∙ ap (λ x. plus_scaled x d w) (combination-push field n c cs v vs (omega arith))
+    ∙ plus_scaled-commutes field c d (combination_of n cs vs) v w
+    ∙ ap (λ x. plus_scaled x c v) (sym (combination-cons_any field n d cs w vs))
+
+pub combination_more : (field : IsField) (n i c : ℕ) (cs v : List ℕ) (vs : List (List ℕ)) → i < length cs → length cs ≡ length vs
+    → c ≡ get_or cs i 0 → v ≡ get_or vs i []
+    → plus_scaled (combination_of n (take i cs) (take i vs)) c v ≡ combination_of n (take (i + 1) cs) (take (i + 1) vs)
+combination_more field n i c cs v vs within same c_is v_is =
+    let there : i < length vs = omega arith in
+    let lengths : length (take i cs) ≡ length (take i vs) = simp length-take (omega arith) in
+    ap₂ (λ x y. plus_scaled (combination_of n (take i cs) (take i vs)) x y) c_is v_is
+    ∙ sym (combination-push field n (get_or cs i 0) (take i cs) (get_or vs i []) (take i vs) lengths)
+    ∙ ap₂ (combination_of n) (sym (take_more cs i 0 within)) (sym (take_more vs i [] there))
 
 pub IsVector-combination : (field : IsField) (n : ℕ) (cs : List ℕ) (vs : List (List ℕ)) → AreSymbols cs → All (IsVector n) vs
     → IsVector n (combination_of n cs vs)
@@ -58,13 +86,13 @@ IsVector-combination field n [] (v ∷ vs) symbols vectors = subst (IsVector n) 
         ext_get_or 0 (combination_of n [] (v ∷ vs)) (replicate n 0)
         (length-combination n [] (v ∷ vs) ∙ sym (length-replicate n 0))
         (λ i within.
-          let below : i < n = omega (arith, length-combination n [] (v ∷ vs)) in
-          get_or-combination n i [] (v ∷ vs) below ∙ sym (get_or-replicate n i 0 0 below))
+        let below : i < n = omega (arith, length-combination n [] (v ∷ vs)) in
+        get_or-combination n i [] (v ∷ vs) below ∙ sym (get_or-replicate n i 0 0 below))
 IsVector-combination field n (c ∷ cs) (v ∷ vs) symbols vectors =
     subst (IsVector n) (sym (combination-cons field n c cs v vs (All-head (IsVector n) v vs vectors)))
     (IsVector-plus_scaled field n c (combination_of n cs vs) v
-     (IsVector-combination field n cs vs (All-tail IsSymbol c cs symbols) (All-tail (IsVector n) v vs vectors))
-     (All-head IsSymbol c cs symbols))
+    (IsVector-combination field n cs vs (All-tail IsSymbol c cs symbols) (All-tail (IsVector n) v vs vectors))
+    (All-head IsSymbol c cs symbols))
 
 -- ---- spans, head by head
 
@@ -79,10 +107,13 @@ span-head field n w vs v vector inside = split inside.coefficients inside.are_sy
     split : (cs : List ℕ) → IsVector (suc (length vs)) cs → combination_of n cs (w ∷ vs) ≡ v
         → (c : ℕ) × (u : List ℕ) × IsSymbol c × InSpan n vs u × (v ≡ plus_scaled u c w)
     split [] are combine = absurd (omega (arith, are.count))
-    split (c ∷ cs) are combine =
-        (c, combination_of n cs vs, All-head IsSymbol c cs are.symbols,
-         record { coefficients = cs; are_symbols = record { count = omega (arith, are.count); symbols = All-tail IsSymbol c cs are.symbols }; combine = refl },
-         sym combine ∙ combination-cons field n c cs w vs vector)
+    split (c ∷ cs) are combine = (
+      c,
+      combination_of n cs vs,
+      All-head IsSymbol c cs are.symbols,
+      record { coefficients = cs; are_symbols = record { count = omega (arith, are.count); symbols = All-tail IsSymbol c cs are.symbols }; combine = refl },
+      sym combine ∙ combination-cons field n c cs w vs vector,
+    )
 
 pub span-head_from : (field : IsField) (n c : ℕ) (w : List ℕ) (vs : List (List ℕ)) (u : List ℕ) → IsVector n w → IsSymbol c → InSpan n vs u
     → InSpan n (w ∷ vs) (plus_scaled u c w)
@@ -106,7 +137,7 @@ span-zero field n [] vectors = record { coefficients = []; are_symbols = IsVecto
 span-zero field n (w ∷ vs) vectors =
     span-same n (w ∷ vs) (plus_scaled (replicate n 0) 0 w) (replicate n 0) (plus_scaled-zero field (replicate n 0) w)
     (span-head_from field n 0 w vs (replicate n 0) (All-head (IsVector n) w vs vectors) (lit< tt)
-     (span-zero field n vs (All-tail (IsVector n) w vs vectors)))
+    (span-zero field n vs (All-tail (IsVector n) w vs vectors)))
 
 -- a span is that of fewer vectors too
 pub span-skip : (field : IsField) (n : ℕ) (w : List ℕ) (vs : List (List ℕ)) (v : List ℕ) → IsVector n w → InSpan n vs v → InSpan n (w ∷ vs) v
@@ -131,12 +162,12 @@ span-plus_scaled field n c (w ∷ vs) u v vectors symbol first second =
     combined a b x y vector a_symbol b_symbol y_vector u_is v_is sum_in =
         span-same n (w ∷ vs) (plus_scaled (plus_scaled x c y) (sum_of a (product_of c b)) w) (plus_scaled u c v)
         (sym
-         (ap₂ (λ p q. plus_scaled p c q) u_is v_is
-          ∙ plus_scaled-plus_scaled field c b (plus_scaled x a w) y w symbol (y_vector.count ∙ sym vector.count)
-          ∙ ap (λ p. plus_scaled p (product_of c b) w) (plus_scaled-commutes field a c x w y)
-          ∙ plus_scaled-sum field a (product_of c b) (plus_scaled x c y) w))
+        (ap₂ (λ p q. plus_scaled p c q) u_is v_is
+        ∙ plus_scaled-plus_scaled field c b (plus_scaled x a w) y w symbol (y_vector.count ∙ sym vector.count)
+        ∙ ap (λ p. plus_scaled p (product_of c b) w) (plus_scaled-commutes field a c x w y)
+        ∙ plus_scaled-sum field a (product_of c b) (plus_scaled x c y) w))
         (span-head_from field n (sum_of a (product_of c b)) w vs (plus_scaled x c y) vector
-         (field.sum_closed a (product_of c b) a_symbol (field.product_closed c b symbol)) sum_in)
+        (field.sum_closed a (product_of c b) a_symbol (field.product_closed c b symbol)) sum_in)
 
 pub span-scaled : (field : IsField) (n c : ℕ) (vs : List (List ℕ)) (v : List ℕ) → All (IsVector n) vs → IsSymbol c
     → InSpan n vs v → InSpan n vs (scaled c v)
@@ -164,8 +195,8 @@ span-closed field n (w ∷ vs) ws v vectors others inner inside =
     let part = span-head field n w vs v (All-head (IsVector n) w vs vectors) inside in
     span-same n ws (plus_scaled part.1 part.0 w) v (sym part.4)
     (span-plus_scaled field n part.0 ws part.1 w others part.2
-     (span-closed field n vs ws part.1 (All-tail (IsVector n) w vs vectors) others (All-tail (InSpan n ws) w vs inner) part.3)
-     (All-head (InSpan n ws) w vs inner))
+    (span-closed field n vs ws part.1 (All-tail (IsVector n) w vs vectors) others (All-tail (InSpan n ws) w vs inner) part.3)
+    (All-head (InSpan n ws) w vs inner))
 
 pub span-grows : (field : IsField) (n : ℕ) (vs ws : List (List ℕ)) (v : List ℕ) → All (IsVector n) (vs ++ ws) → InSpan n vs v → InSpan n (vs ++ ws) v
 span-grows field n [] ws v vectors inside = span-same n ws (replicate n 0) v (sym (span-empty n v inside)) (span-zero field n ws vectors)
@@ -174,25 +205,29 @@ span-grows field n (w ∷ vs) ws v vectors inside =
     let part = span-head field n w vs v vector inside in
     span-same n (w ∷ vs ++ ws) (plus_scaled part.1 part.0 w) v (sym part.4)
     (span-head_from field n part.0 w (vs ++ ws) part.1 vector part.2
-     (span-grows field n vs ws part.1 (All-tail (IsVector n) w (vs ++ ws) vectors) part.3))
+    (span-grows field n vs ws part.1 (All-tail (IsVector n) w (vs ++ ws) vectors) part.3))
 
 -- ---- one vector more, at the end
 
 pub span-last : (field : IsField) (n : ℕ) (vs : List (List ℕ)) (w v : List ℕ) → All (IsVector n) vs → IsVector n w
     → InSpan n (vs ++ w ∷ []) v → (c : ℕ) × IsSymbol c × InSpan n vs (plus_scaled v c w)
 span-last field n [] w v vectors vector inside =
-    let part = span-head field n w [] v vector inside in
-    (part.0, part.2,
-     span-same n [] part.1 (plus_scaled v part.0 w)
-     (sym (ap (λ x. plus_scaled x part.0 w) part.4 ∙ plus_scaled-twice field part.0 part.1 w)) part.3)
+    let part = span-head field n w [] v vector inside in (
+      part.0,
+      part.2,
+      span-same n [] part.1 (plus_scaled v part.0 w)
+          (sym (ap (λ x. plus_scaled x part.0 w) part.4 ∙ plus_scaled-twice field part.0 part.1 w)) part.3,
+    )
 span-last field n (u ∷ vs) w v vectors vector inside =
     let head = All-head (IsVector n) u vs vectors in
     let part = span-head field n u (vs ++ w ∷ []) v head inside in
-    let rest = span-last field n vs w part.1 (All-tail (IsVector n) u vs vectors) vector part.3 in
-    (rest.0, rest.1,
-     span-same n (u ∷ vs) (plus_scaled (plus_scaled part.1 rest.0 w) part.0 u) (plus_scaled v rest.0 w)
-     (plus_scaled-commutes field rest.0 part.0 part.1 w u ∙ ap (λ x. plus_scaled x rest.0 w) (sym part.4))
-     (span-head_from field n part.0 u vs (plus_scaled part.1 rest.0 w) head part.2 rest.2))
+    let rest = span-last field n vs w part.1 (All-tail (IsVector n) u vs vectors) vector part.3 in (
+      rest.0,
+      rest.1,
+      span-same n (u ∷ vs) (plus_scaled (plus_scaled part.1 rest.0 w) part.0 u) (plus_scaled v rest.0 w)
+          (plus_scaled-commutes field rest.0 part.0 part.1 w u ∙ ap (λ x. plus_scaled x rest.0 w) (sym part.4))
+          (span-head_from field n part.0 u vs (plus_scaled part.1 rest.0 w) head part.2 rest.2),
+    )
 
 pub span-last_from : (field : IsField) (n c : ℕ) (vs : List (List ℕ)) (w v : List ℕ) → All (IsVector n) vs → IsVector n w → IsVector n v
     → IsSymbol c → InSpan n vs (plus_scaled v c w) → InSpan n (vs ++ w ∷ []) v
@@ -200,8 +235,8 @@ span-last_from field n c vs w v vectors vector own symbol inside =
     let all = All-append (IsVector n) vs (w ∷ []) vectors (All-cons (IsVector n) w [] vector (All-nil (IsVector n))) in
     span-same n (vs ++ w ∷ []) (plus_scaled (plus_scaled v c w) c w) v (plus_scaled-twice field c v w)
     (span-plus_scaled field n c (vs ++ w ∷ []) (plus_scaled v c w) w all symbol
-     (span-grows field n vs (w ∷ []) (plus_scaled v c w) all inside)
-     (span-member field n vs [] w all))
+    (span-grows field n vs (w ∷ []) (plus_scaled v c w) all inside)
+    (span-member field n vs [] w all))
 
 -- ---- the first k symbols
 

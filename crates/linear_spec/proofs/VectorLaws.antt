@@ -1,5 +1,5 @@
 -- Lists of symbols as vectors: the calculus of adding a multiple of one to another, over any field of characteristic two.
-use Rattle.std.proofs.Common.{◌≡◌, ℕ, zero, suc, ◌+◌, ◌<◌, ◌≤◌, ◌^◌, List, [], ◌∷◌, ◌++◌, length, get_or, take, drop, replicate, map, refl, ap, ap₂, sym, ◌∙◌, arith, lit<}
+use Rattle.std.proofs.Common.{◌≡◌, ℕ, zero, suc, ◌+◌, ◌<◌, ◌≤◌, ◌^◌, List, [], ◌∷◌, ◌++◌, length, get_or, take, drop, set, replicate, map, refl, ap, ap₂, sym, ◌∙◌, arith, lit<, add-one}
 use Rattle.std.specs.List.{All}
 use Rattle.std.proofs.lemmas.List.{length-replicate, length-map, ext_get_or}
 use Rattle.std.proofs.lemmas.List.Elements.{All-nil, All-cons, All-head, All-tail, All-replicate}
@@ -88,7 +88,7 @@ module _ (field : IsField) where
   plus_scaled-plus_scaled a b (x ∷ u) (y ∷ v) (z ∷ w) symbol same =
       ap₂ (λ d r. d ∷ r)
       (ap (sum_of x) (field.product_distributes a y (product_of b z) ∙ ap (sum_of (product_of a y)) (sym (field.product_associates a b z symbol)))
-       ∙ sym (field.sum_associates x (product_of a y) (product_of (product_of a b) z)))
+      ∙ sym (field.sum_associates x (product_of a y) (product_of (product_of a b) z)))
       (plus_scaled-plus_scaled a b u v w symbol (omega arith))
 
   -- two multiples of one vector are its multiple by the sum
@@ -126,6 +126,18 @@ module _ (field : IsField) where
   pub scaled-one : (v : List ℕ) → AreSymbols v → scaled 1 v ≡ v
   scaled-one [] symbols = refl
   scaled-one (y ∷ v) symbols = ap₂ (λ d r. d ∷ r) (field.one_product y (All-head IsSymbol y v symbols)) (scaled-one v (All-tail IsSymbol y v symbols))
+
+  -- what a multiple is added to is taken away again
+  pub plus_scaled-cancels : (c : ℕ) (u v : List ℕ) → AreSymbols u → length u ≡ length v → plus_scaled (plus_scaled u c v) 1 u ≡ scaled c v
+  plus_scaled-cancels c [] [] symbols same = refl
+  plus_scaled-cancels c [] (y ∷ v) symbols same = absurd (omega arith)
+  plus_scaled-cancels c (x ∷ u) [] symbols same = absurd (omega arith)
+  plus_scaled-cancels c (x ∷ u) (y ∷ v) symbols same =
+      ap₂ (λ d r. d ∷ r)
+      (ap (sum_of (sum_of x (product_of c y))) (field.one_product x (All-head IsSymbol x u symbols))
+      ∙ ap (λ a. sum_of a x) (field.sum_commutes x (product_of c y))
+      ∙ sum-twice (product_of c y) x)
+      (plus_scaled-cancels c u v (All-tail IsSymbol x u symbols) (omega arith))
 
   -- ---- vectors of symbols
 
@@ -181,3 +193,34 @@ IsVector-cons n x xs symbol vector = record {
   count = ap suc vector.count;
   symbols = All-cons IsSymbol x xs symbol vector.symbols;
 }
+
+-- ---- one place after another, as a loop adds them
+
+nothing_more : (c : ℕ) (u : List ℕ) → plus_scaled u c [] ≡ u
+nothing_more c [] = refl
+nothing_more c (x ∷ u) = refl
+
+pub plus_scaled-none : (c : ℕ) (u v : List ℕ) → u ≡ plus_scaled u c (take 0 v)
+plus_scaled-none c u v = sym (nothing_more c u)
+
+-- a place that was not yet reached is as before
+get_or-plus_scaled-rest : (c i : ℕ) (u v : List ℕ) → get_or (plus_scaled u c (take i v)) i 0 ≡ get_or u i 0
+get_or-plus_scaled-rest c i [] v = refl
+get_or-plus_scaled-rest c zero (x ∷ u) v = refl
+get_or-plus_scaled-rest c (suc i) (x ∷ u) [] = refl
+get_or-plus_scaled-rest c (suc i) (x ∷ u) (y ∷ v) = get_or-plus_scaled-rest c i u v
+
+set-plus_scaled : (c i : ℕ) (u v : List ℕ) → i < length u → i < length v
+    → set (plus_scaled u c (take i v)) i (sum_of (get_or u i 0) (product_of c (get_or v i 0))) ≡ plus_scaled u c (take (suc i) v)
+set-plus_scaled c i [] v within there = absurd (omega arith)
+set-plus_scaled c i (x ∷ u) [] within there = absurd (omega arith)
+set-plus_scaled c zero (x ∷ u) (y ∷ v) within there = ap (λ r. sum_of x (product_of c y) ∷ r) (sym (nothing_more c u))
+set-plus_scaled c (suc i) (x ∷ u) (y ∷ v) within there = ap (λ r. sum_of x (product_of c y) ∷ r) (set-plus_scaled c i u v (omega arith) (omega arith))
+
+pub plus_scaled_more : (c i : ℕ) (u v xs : List ℕ) → i < length u → i < length v → xs ≡ plus_scaled u c (take i v)
+    → set xs i (sum_of (get_or xs i 0) (product_of c (get_or v i 0))) ≡ plus_scaled u c (take (i + 1) v)
+plus_scaled_more c i u v xs within there so_far =
+    ap (λ w. set w i (sum_of (get_or w i 0) (product_of c (get_or v i 0)))) so_far
+    ∙ ap (λ a. set (plus_scaled u c (take i v)) i (sum_of a (product_of c (get_or v i 0)))) (get_or-plus_scaled-rest c i u v)
+    ∙ set-plus_scaled c i u v within there
+    ∙ ap (λ k. plus_scaled u c (take k v)) (sym (add-one i))

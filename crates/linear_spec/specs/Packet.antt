@@ -19,6 +19,9 @@ vectors_of packets = map vector_of packets
 abbrev pub coefficients_of : List Packet → List (List ℕ)
 coefficients_of packets = map (λ packet. packet.coeffs) packets
 
+abbrev pub payloads_of : List Packet → List (List ℕ)
+payloads_of packets = map (λ packet. packet.payload) packets
+
 -- the payload is the combination of the source's blocks of s symbols with the packet's coefficients
 abbrev pub IsTrueTo : ℕ → List (List ℕ) → Packet → Type 0
 IsTrueTo s blocks packet = combination_of s packet.coeffs blocks ≡ packet.payload

@@ -1,6 +1,7 @@
 //! Lists, words, symbol vectors and packets: the plain data that every crate above speaks of.
 #![tactic(auto)]
 
+mod combination;
 pub mod laws;
 mod list;
 mod packet;
@@ -8,6 +9,7 @@ mod reply;
 mod sym_vec;
 mod words;
 
+pub use combination::combine;
 pub use list::List;
 pub use packet::Packet;
 pub use reply::Reply;

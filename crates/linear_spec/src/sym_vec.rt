@@ -67,6 +67,13 @@ impl SymVec {
         Ok(())
     }
 
+    /// An equal vector.
+    pub fn copy(&self, alloc: Global) -> Result<SymVec, Memory>
+        ensures { IfOk result (λ v. v ≡ self.now) }
+    {
+        SymVec::from_slice(alloc, self.as_slice())
+    }
+
     /// The number of symbols.
     pub fn len(&self) -> usize
         ensures { result ≡ length self.now }
