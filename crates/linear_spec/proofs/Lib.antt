@@ -1,8 +1,6 @@
 pub mod Decision
 pub mod Echelon
 pub mod Equations
-pub mod Heads
-pub mod Places
 pub mod RankBounds
 pub mod Ranks
 pub mod RowPlaces

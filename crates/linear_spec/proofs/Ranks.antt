@@ -17,7 +17,7 @@ use Rattle.linear_spec.specs.Span.{InSpan, HasRankAfter, HasRank}
 use Rattle.linear_spec.specs.Packet.{Fits, vector_of, coefficients_of}
 use Rattle.linear_spec.specs.Rows.{StandForAll, IsRowOf, pivot_of, first_nonzero, remainder_of}
 use Rattle.linear_spec.proofs.SpanLaws.{IsVector-nil, IsVector-take, span-zero, span-member, span-grows, span-closed}
-use Rattle.linear_spec.proofs.Places.{symbol_at, get_or-zero}
+use Rattle.linear_spec.proofs.Equations.{symbol_at, get_or-zero}
 use Rattle.linear_spec.proofs.Echelon.{IsClear, IsEchelon, echelon_zero}
 use Rattle.linear_spec.proofs.RowSpans.{IsSameSpan, span-members, IsVector-coefficients, rows_fit}
 use Rattle.linear_spec.proofs.RowPlaces.{echelon_coefficients, pivots_below, stand_none}
