@@ -1,6 +1,7 @@
 pub mod Decision
 pub mod Echelon
 pub mod Equations
+pub mod PacketLaws
 pub mod RankBounds
 pub mod Ranks
 pub mod RowPlaces
