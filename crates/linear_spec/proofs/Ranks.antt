@@ -20,7 +20,7 @@ use Rattle.linear_spec.proofs.SpanLaws.{IsVector-nil, IsVector-take, span-zero, 
 use Rattle.linear_spec.proofs.SpanChanges.{span-members}
 use Rattle.linear_spec.proofs.Equations.{symbol_at, get_or-zero}
 use Rattle.linear_spec.proofs.Echelon.{IsClear, IsEchelon, echelon_zero}
-use Rattle.linear_spec.proofs.RowSpans.{IsSameSpan, IsVector-coefficients, rows_fit}
+use Rattle.linear_spec.proofs.RowSpans.{IsVector-coefficients, rows_fit}
 use Rattle.linear_spec.proofs.RowPlaces.{echelon_coefficients, pivots_below, stand_none}
 use Rattle.linear_spec.proofs.Decision.{by_remainder, in_span_from_remainder, row_joins}
 use Rattle.linear_spec.proofs.SpanDecides.{span_decides}
