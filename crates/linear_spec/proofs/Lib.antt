@@ -4,6 +4,7 @@ pub mod Equations
 pub mod PacketLaws
 pub mod RankBounds
 pub mod Ranks
+pub mod RowLaws
 pub mod RowPlaces
 pub mod RowSpans
 pub mod SpanChanges

@@ -51,7 +51,7 @@ module _ (field : IsField) (k s : ℕ) (packets rows : List Packet) (packet : Pa
       )
 
 module _ (k s : ℕ) (packets rows : List Packet) (stand : StandForAll k s packets rows) where
-  pivots_differ : (i j : ℕ) (d : Packet) → i < j → j < length rows → pivot_of (get_or rows i d) ≢ pivot_of (get_or rows j d)
+  pub pivots_differ : (i j : ℕ) (d : Packet) → i < j → j < length rows → pivot_of (get_or rows i d) ≢ pivot_of (get_or rows j d)
   pivots_differ i j d h l same =
       let row = get_or rows j d in
       let e : ◌≡◌ {A = ℕ} 0 1 =

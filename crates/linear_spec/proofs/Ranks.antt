@@ -88,7 +88,7 @@ echelon-take n view (suc i) (row ∷ rows) echelon = (
 )
 
 module _ (field : IsField) (k s : ℕ) (packets rows : List Packet) (stand : StandForAll k s packets rows) where
-  row_fresh : (i : ℕ) (d : Packet) → i < length rows → ¬ InSpan k (coefficients_of (take i rows)) (get_or rows i d).coeffs
+  pub row_fresh : (i : ℕ) (d : Packet) → i < length rows → ¬ InSpan k (coefficients_of (take i rows)) (get_or rows i d).coeffs
   row_fresh i d below span =
       let count = stand.count in
       let row = get_or rows i d in
