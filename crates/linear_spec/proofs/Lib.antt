@@ -1,6 +1,6 @@
 pub mod Decision
 pub mod Echelon
-pub mod Equations
+pub mod VectorSums
 pub mod PacketLaws
 pub mod RankBounds
 pub mod Ranks
