@@ -1,28 +1,18 @@
 -- The rank of a list of vectors: there is exactly one, it is at most the number of vectors and at most the number of their
 -- symbols, and rows that stand for packets have as large a rank as can be.
-use Rattle.std.proofs.Common.{◌≡◌, ◌≢◌, ◌⊎◌, eqb, true, ℕ, zero, suc, ◌+◌, ◌^◌, ◌<◌, ◌≤◌, List, [], ◌∷◌, ◌++◌, length, map, take, drop, get_or, replicate, refl, sym, ap, ◌∙◌, subst, ⊎_elim, inl, inr, lit<, arith}
+use Rattle.std.proofs.Common.{◌≡◌, ℕ, zero, suc, ◌<◌, ◌≤◌, List, [], ◌∷◌, ◌++◌, length, take, get_or, replicate, refl, sym, ap, ◌∙◌, subst, inl, inr, arith}
 use Rattle.std.specs.List.{All}
-use Rattle.std.proofs.lemmas.Bool.{eqb-true}
-use Rattle.std.proofs.lemmas.Bool.Decides.{Decides-eqb}
-use Rattle.std.proofs.lemmas.List.{append-nil, append_assoc, length-map, length_push, get_or-map, get_or_past, map_push, take-map, get_or_default, ext_get_or, length-replicate}
-use Rattle.std.proofs.lemmas.List.Elements.{All-nil, All-cons, All-head, All-tail, All-push, All-take, All-weaker, All-append, All-map}
-use Rattle.std.proofs.lemmas.List.Folds.{Any-from_list_any}
-use Rattle.std.proofs.lemmas.Map.Made.{IsDistinct-from_AllPairs}
-use Rattle.std.proofs.lemmas.Map.Steps.{length-le_from_distinct_below}
-use Rattle.gf16.specs.Field.{IsSymbol, IsField}
-use Rattle.gf16.specs.Sums.{plus_scaled, scaled}
+use Rattle.std.proofs.lemmas.List.{append-nil, append_assoc, length-map, get_or-map, take-map}
+use Rattle.std.proofs.lemmas.List.Elements.{All-nil, All-head, All-tail, All-push, All-take}
+use Rattle.gf16.specs.Field.{IsField}
 use Rattle.linear_spec.specs.declared.packet.Packet.{Packet}
 use Rattle.linear_spec.specs.Symbols.{IsVector}
 use Rattle.linear_spec.specs.Span.{InSpan, HasRankAfter, HasRank}
-use Rattle.linear_spec.specs.Packet.{Fits, vector_of, coefficients_of}
-use Rattle.linear_spec.specs.Rows.{StandForAll, IsRowOf, pivot_of, first_nonzero, remainder_of}
-use Rattle.linear_spec.proofs.SpanLaws.{IsVector-nil, IsVector-take, span-zero, span-member, span-grows, span-closed}
-use Rattle.linear_spec.proofs.SpanChanges.{span-members}
-use Rattle.linear_spec.proofs.VectorSums.{symbol_at, get_or-zero}
+use Rattle.linear_spec.specs.Packet.{coefficients_of}
+use Rattle.linear_spec.specs.Rows.{StandForAll, pivot_of}
+use Rattle.linear_spec.proofs.VectorSums.{get_or-zero}
 use Rattle.linear_spec.proofs.Echelon.{IsClear, IsEchelon, echelon_zero}
-use Rattle.linear_spec.proofs.RowSpans.{IsVector-coefficients, rows_fit}
-use Rattle.linear_spec.proofs.RowPlaces.{echelon_coefficients, pivots_below, stand_none}
-use Rattle.linear_spec.proofs.Decision.{by_remainder, in_span_from_remainder, row_joins}
+use Rattle.linear_spec.proofs.RowPlaces.{echelon_coefficients}
 use Rattle.linear_spec.proofs.SpanDecides.{span_decides}
 
 rank_unique_after : (n : ℕ) (before vs : List (List ℕ)) (r q : ℕ) → HasRankAfter n before vs r → HasRankAfter n before vs q → r ≡ q
@@ -72,7 +62,7 @@ rank_of_fresh n front (v ∷ vs) fresh = inr (
   length vs,
   refl,
   rank_of_fresh n (front ++ v ∷ []) vs (λ i d h span.
-      fresh (suc i) d (omega arith) (subst (λ us. InSpan n us (get_or vs i d)) (append_assoc front (v ∷ []) (take i vs)) span))
+      fresh (suc i) d (omega arith) (subst (λ us. InSpan n us (get_or vs i d)) (append_assoc front (v ∷ []) (take i vs)) span)),
 )
 
 echelon-take : (n : ℕ) (view : Packet → List ℕ) (i : ℕ) (rows : List Packet) → IsEchelon n view rows → IsEchelon n view (take i rows)
@@ -84,7 +74,7 @@ echelon-take n view (suc i) (row ∷ rows) echelon = (
     one = echelon.0.one;
     clear = All-take (λ other. IsClear (view other) row) i rows echelon.0.clear;
   },
-  echelon-take n view i rows echelon.1
+  echelon-take n view i rows echelon.1,
 )
 
 module _ (field : IsField) (k s : ℕ) (packets rows : List Packet) (stand : StandForAll k s packets rows) where
@@ -94,8 +84,8 @@ module _ (field : IsField) (k s : ℕ) (packets rows : List Packet) (stand : Sta
       let row = get_or rows i d in
       let stands = stand.each i d d (omega arith) in
       let zeros : row.coeffs ≡ replicate k 0 =
-          echelon_zero field k (λ packet. packet.coeffs) (take i rows) row.coeffs
-          (echelon-take k (λ packet. packet.coeffs) i rows (echelon_coefficients k s packets rows stand)) span stands.cleared in
+      echelon_zero field k (λ packet. packet.coeffs) (take i rows) row.coeffs
+      (echelon-take k (λ packet. packet.coeffs) i rows (echelon_coefficients k s packets rows stand)) span stands.cleared in
       let e : ◌≡◌ {A = ℕ} 0 1 = sym (ap (λ v. get_or v (pivot_of row) 0) zeros ∙ get_or-zero k (pivot_of row)) ∙ stands.one_at_pivot in
       absurd (omega arith)
 
@@ -103,8 +93,8 @@ module _ (field : IsField) (k s : ℕ) (packets rows : List Packet) (stand : Sta
   rows_rank =
       subst (HasRank k (coefficients_of rows)) (length-map rows (λ packet. packet.coeffs))
       (rank_of_fresh k [] (coefficients_of rows) (λ i d h span.
-          let blank : Packet = record { generation = 0; coeffs = d; payload = [] } in
-          let below : i < length rows = omega (arith, length-map rows (λ packet. packet.coeffs)) in
-          row_fresh i blank below
-          (subst (InSpan k (coefficients_of (take i rows))) (get_or-map (λ packet. packet.coeffs) rows i blank d below)
-              (subst (λ us. InSpan k us (get_or (coefficients_of rows) i d)) (take-map (λ packet. packet.coeffs) i rows) span))))
+      let blank : Packet = record { generation = 0; coeffs = d; payload = [] } in
+      let below : i < length rows = omega (arith, length-map rows (λ packet. packet.coeffs)) in
+      row_fresh i blank below
+      (subst (InSpan k (coefficients_of (take i rows))) (get_or-map (λ packet. packet.coeffs) rows i blank d below)
+      (subst (λ us. InSpan k us (get_or (coefficients_of rows) i d)) (take-map (λ packet. packet.coeffs) i rows) span))))

@@ -1,23 +1,23 @@
 -- The laws of rows in the forms that the law functions state.
-use Rattle.std.proofs.Common.{◌≡◌, ◌≢◌, ◌⊎◌, ◌↔◌, ℕ, zero, suc, ◌+◌, ◌<◌, ◌≤◌, min, List, [], ◌∷◌, ◌++◌, length, take, drop, get_or, replicate, refl, sym, ap, ◌∙◌, subst, arith}
+use Rattle.std.proofs.Common.{◌≡◌, ◌≢◌, ◌↔◌, ℕ, ◌+◌, ◌<◌, List, [], ◌∷◌, ◌++◌, length, take, get_or, replicate, refl, sym, ap, ◌∙◌, subst, arith}
 use Rattle.std.specs.List.{All}
-use Rattle.std.proofs.lemmas.List.{get_or-take, take-take, take_all, length-take, length_push}
+use Rattle.std.proofs.lemmas.List.{get_or-take, take-take, length-take, length_push}
 use Rattle.std.proofs.lemmas.List.Elements.{All-nil, All-take}
-use Rattle.gf16.specs.Field.{IsSymbol, IsField}
-use Rattle.gf16.specs.Sums.{plus_scaled, scaled}
+use Rattle.gf16.specs.Field.{IsField}
+use Rattle.gf16.specs.Sums.{plus_scaled}
 use Rattle.linear_spec.specs.declared.packet.Packet.{Packet}
 use Rattle.linear_spec.specs.Symbols.{IsVector}
-use Rattle.linear_spec.specs.Span.{InSpan, HaveOneSpan, HasRank}
+use Rattle.linear_spec.specs.Span.{InSpan}
 use Rattle.linear_spec.specs.Packet.{Fits, vector_of, vectors_of, coefficients_of}
 use Rattle.linear_spec.specs.Cases.{IsFresh, IsWithin}
-use Rattle.linear_spec.specs.Rows.{StandsFor, StandForAll, IsRowOf, pivot_of, remainder_of}
+use Rattle.linear_spec.specs.Rows.{StandForAll, pivot_of, remainder_of}
 use Rattle.linear_spec.proofs.SpanLaws.{take-plus_scaled, plus_scaled-twice, span-empty, span-zero, span-plus_scaled}
-use Rattle.linear_spec.proofs.Echelon.{IsVector-remainder, remainder-clear, remainder-in_span}
+use Rattle.linear_spec.proofs.Echelon.{remainder-clear, remainder-in_span}
 use Rattle.linear_spec.proofs.RowSpans.{rows_same_coefficients, take-vector, span-coefficients, IsVector-coefficients}
-use Rattle.linear_spec.proofs.RowPlaces.{echelon_vectors, stand_push}
+use Rattle.linear_spec.proofs.RowPlaces.{echelon_vectors}
 use Rattle.linear_spec.proofs.Ranks.{row_fresh}
 use Rattle.linear_spec.proofs.RankBounds.{rows_at_most, fresh_gives_row}
-use Rattle.linear_spec.proofs.Decision.{row_stands, row_joins, in_span_from_remainder, remainder_from_in_span}
+use Rattle.linear_spec.proofs.Decision.{row_joins, in_span_from_remainder, remainder_from_in_span}
 
 pub remainder-push : (rows : List Packet) (row : Packet) (v : List ℕ)
     → remainder_of (rows ++ row ∷ []) v ≡ plus_scaled (remainder_of rows v) (get_or (remainder_of rows v) (pivot_of row) 0) (vector_of row)
@@ -70,26 +70,26 @@ packet_fresh field k s at packets rows packet fit stand below span =
     let count = stand.count in
     let within : at < length rows = omega arith in
     let sum : InSpan k (coefficients_of earlier) (plus_scaled row.coeffs m own.coeffs) =
-        subst (InSpan k (coefficients_of earlier))
-        (take-plus_scaled k m (vector_of row) (vector_of own)
-        ∙ ap (λ v. plus_scaled v m (take k (vector_of own))) (take-vector k s row stands.fits)
-        ∙ ap (plus_scaled row.coeffs m) (take-vector k s own (fit at packet below)))
-        (span-coefficients k s field earlier (plus_scaled (vector_of row) m (vector_of own)) earlier_fit stands.in_span) in
+    subst (InSpan k (coefficients_of earlier))
+    (take-plus_scaled k m (vector_of row) (vector_of own)
+    ∙ ap (λ v. plus_scaled v m (take k (vector_of own))) (take-vector k s row stands.fits)
+    ∙ ap (plus_scaled row.coeffs m) (take-vector k s own (fit at packet below)))
+    (span-coefficients k s field earlier (plus_scaled (vector_of row) m (vector_of own)) earlier_fit stands.in_span) in
     let row_follows : InSpan k (coefficients_of earlier) row.coeffs =
-        subst (InSpan k (coefficients_of earlier)) (plus_scaled-twice field m row.coeffs own.coeffs)
-        (span-plus_scaled field k m (coefficients_of earlier) (plus_scaled row.coeffs m own.coeffs) own.coeffs
-            (IsVector-coefficients k s earlier earlier_fit) stands.multiple_is_symbol sum span) in
+    subst (InSpan k (coefficients_of earlier)) (plus_scaled-twice field m row.coeffs own.coeffs)
+    (span-plus_scaled field k m (coefficients_of earlier) (plus_scaled row.coeffs m own.coeffs) own.coeffs
+    (IsVector-coefficients k s earlier earlier_fit) stands.multiple_is_symbol sum span) in
     row_fresh field k s packets rows stand at packet within
     ((rows_same_coefficients k s field earlier (take at rows) earlier_fit (stand_front k s at packets rows stand) row.coeffs).0 row_follows)
 
 pub fresh_at_none : (field : IsField) (k : ℕ) (packet : Packet) → IsFresh k [] packet ↔ (packet.coeffs ≢ replicate k 0)
 fresh_at_none field k packet = (
   λ fresh zero. fresh (subst (InSpan k []) (sym zero) (span-zero field k [] (All-nil (IsVector k)))),
-  λ some span. some (span-empty k packet.coeffs span)
+  λ some span. some (span-empty k packet.coeffs span),
 )
 
 pub within_at_none : (field : IsField) (k s : ℕ) (packet : Packet) → IsWithin k s [] packet ↔ (vector_of packet ≡ replicate (k + s) 0)
 within_at_none field k s packet = (
   span-empty (k + s) (vector_of packet),
-  λ zero. subst (InSpan (k + s) []) (sym zero) (span-zero field (k + s) [] (All-nil (IsVector (k + s))))
+  λ zero. subst (InSpan (k + s) []) (sym zero) (span-zero field (k + s) [] (All-nil (IsVector (k + s)))),
 )

@@ -1,5 +1,5 @@
 -- Rows in echelon form: a row stands for a packet after those before it. A row has the form of a packet.
-use Rattle.std.specs.Prelude.{◌≡◌, ◌≢◌, ℕ, ◌+◌, ◌<◌, List, [], ◌∷◌, length, take, not, ◌==◌, slice_index, slice_index_or}
+use Rattle.std.specs.Prelude.{◌≡◌, ◌≢◌, ℕ, ◌+◌, ◌<◌, List, [], ◌∷◌, length, take, drop, not, ◌==◌, slice_index, slice_index_or}
 use Rattle.std.specs.List.{All, position_or_len}
 use Rattle.gf16.specs.Field.{IsSymbol, product_of}
 use Rattle.gf16.specs.Sums.{plus_scaled, scaled}
