@@ -1,5 +1,5 @@
 -- Which ends are left when the others are ruled out.
-use Rattle.std.proofs.Common.{◌≡◌, ℕ, List, [], ◌∷◌, length, refl, ap, subst, ◌∙◌, sym, ◌⊎◌, inl, inr, arith}
+use Rattle.std.proofs.Common.{◌≡◌, ℕ, List, [], ◌∷◌, length, refl, subst, sym, ◌⊎◌, inr, arith}
 use Rattle.std.specs.Prelude.{Option, None, Some, Err, IfSome, IsErrOf, slice_get}
 use Rattle.avalanche_cli.specs.Fetch.{CanFetch, CannotFetch, IsFileOf, IsRefusal}
 use Rattle.avalanche_cli.specs.declared.end.End.{End}

@@ -1,5 +1,5 @@
 -- Spans of lists of vectors that share members, and the replacement of one vector by another.
-use Rattle.std.proofs.Common.{◌≡◌, ◌≢◌, ◌↔◌, ℕ, suc, ◌+◌, ◌<◌, ◌^◌, List, [], ◌∷◌, ◌++◌, length, get_or, set, take, drop, refl, ap, ap₂, sym, subst, ◌∙◌, arith, lit<}
+use Rattle.std.proofs.Common.{◌≡◌, ◌≢◌, ◌↔◌, ℕ, suc, ◌+◌, ◌<◌, List, [], ◌∷◌, ◌++◌, length, get_or, set, take, drop, ap, sym, subst, ◌∙◌, arith, lit<}
 use Rattle.std.specs.List.{All}
 use Rattle.std.proofs.lemmas.List.{length-append, get_or_append_left, get_or-append-add, set_split, set-get_or}
 use Rattle.std.proofs.lemmas.List.Elements.{All-nil, All-cons, All-head, All-tail, All-append, All-weaker}
@@ -7,7 +7,7 @@ use Rattle.gf16.specs.Field.{IsSymbol, IsField, product_of}
 use Rattle.gf16.specs.Sums.{scaled, plus_scaled}
 use Rattle.linear_spec.specs.Symbols.{IsVector}
 use Rattle.linear_spec.specs.Span.{InSpan}
-use Rattle.linear_spec.proofs.SpanLaws.{span-same, span-skip, span-member, span-grows, span-closed, span-plus_scaled, span-scaled, plus_scaled-commutes, plus_scaled-twice, plus_scaled-cancels, scaled-scaled, scaled-one}
+use Rattle.linear_spec.proofs.SpanLaws.{span-same, span-skip, span-member, span-grows, span-closed, span-plus_scaled, span-scaled, plus_scaled-twice, plus_scaled-cancels, scaled-scaled, scaled-one}
 
 pub All-left : {X : Type 0} (P : X → Type 0) (xs ys : List X) → All P (xs ++ ys) → All P xs
 All-left P xs ys all = λ k d below.

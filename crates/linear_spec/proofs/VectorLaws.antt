@@ -1,7 +1,6 @@
 -- Lists of symbols as vectors: the calculus of adding a multiple of one to another, over any field of characteristic two.
-use Rattle.std.proofs.Common.{◌≡◌, ℕ, zero, suc, ◌+◌, ◌<◌, ◌≤◌, ◌^◌, List, [], ◌∷◌, ◌++◌, length, get_or, take, drop, set, replicate, map, refl, ap, ap₂, sym, ◌∙◌, arith, lit<, add-one}
-use Rattle.std.specs.List.{All}
-use Rattle.std.proofs.lemmas.List.{length-replicate, length-map, ext_get_or}
+use Rattle.std.proofs.Common.{◌≡◌, ℕ, zero, suc, ◌+◌, ◌<◌, List, [], ◌∷◌, ◌++◌, length, get_or, take, drop, set, replicate, refl, ap, ap₂, sym, ◌∙◌, arith, lit<, add-one}
+use Rattle.std.proofs.lemmas.List.{length-replicate, length-map}
 use Rattle.std.proofs.lemmas.List.Elements.{All-nil, All-cons, All-head, All-tail, All-replicate}
 use Rattle.gf16.specs.Field.{IsSymbol, IsField, sum_of, product_of}
 use Rattle.gf16.specs.Sums.{scaled, plus_scaled}

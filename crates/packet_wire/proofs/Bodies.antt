@@ -1,16 +1,14 @@
 -- The parts of a body: how long they are, and that the body determines them.
-use Rattle.std.proofs.Common.{◌≡◌, ◌≢◌, ℕ, ◌+◌, ◌*◌, ◌<◌, ◌≤◌, ◌^◌, List, [], ◌∷◌, ◌++◌, length, get_or, take, drop, refl, ap, subst, sym, ◌∙◌, arith}
+use Rattle.std.proofs.Common.{◌≡◌, ℕ, ◌<◌, ◌^◌, List, [], ◌∷◌, ◌++◌, length, get_or, take, drop, refl, ap, sym, ◌∙◌, arith}
 use Rattle.std.specs.Int.{w16, w64, to_be_bytes, from_be_bytes}
 use Rattle.std.proofs.lemmas.Nat.{from_be_bytes-to_be_bytes_2, from_be_bytes-to_be_bytes_8}
 use Rattle.std.proofs.lemmas.List.{length-append, length-drop, take-append-drop, drop_at}
 use Rattle.linear_spec.specs.Symbols.{be_bytes_of}
-use Rattle.generation.specs.Shape.{Dimensions, IsShape}
 use Rattle.packet_wire.specs.declared.manifest.Manifest.{Manifest}
-use Rattle.packet_wire.specs.declared.frame.Kind.TheVariants as kinds
-use Rattle.packet_wire.specs.Frame.{frame, number_of}
-use Rattle.packet_wire.specs.Stream.{IsManifest, manifest_body, manifest_frame, ticket_frame, ticket_body}
+use Rattle.packet_wire.specs.Frame.{frame}
+use Rattle.packet_wire.specs.Stream.{IsManifest, manifest_body, ticket_body}
 use Rattle.packet_wire.specs.Reading.{unchecked}
-use Rattle.packet_wire.proofs.Frames.{frame_unique, SameFrame}
+use Rattle.packet_wire.proofs.Frames.{frame_unique}
 
 -- a list is its front and what is left of it
 pub joined : (s front back : List ℕ) (n : ℕ) → front ≡ take n s → back ≡ drop n s → s ≡ front ++ back

@@ -1,19 +1,18 @@
 -- Bytes are a first stream in one way at most: what is read from the front decides the rest.
-use Rattle.std.proofs.Common.{◌≡◌, ◌≢◌, ℕ, ◌+◌, ◌*◌, ◌<◌, ◌≤◌, ◌^◌, List, [], ◌∷◌, ◌++◌, length, refl, ap, subst, sym, ◌∙◌, arith, append_assoc}
+use Rattle.std.proofs.Common.{◌≡◌, ℕ, ◌*◌, ◌<◌, ◌^◌, List, [], ◌∷◌, ◌++◌, length, refl, ap, subst, sym, ◌∙◌, arith, append_assoc}
 use Rattle.std.specs.Int.{w16, to_be_bytes}
 use Rattle.std.specs.List.{All, flat_map}
 use Rattle.std.proofs.lemmas.List.{append-nil, append_cancel_right}
 use Rattle.std.proofs.lemmas.List.Elements.{All-head, All-nil, All-tail}
 use Rattle.linear_spec.specs.declared.packet.Packet.{Packet}
-use Rattle.linear_spec.specs.Symbols.{AreBytes, AreSymbols, be_bytes_of, symbols_of, IsVector}
+use Rattle.linear_spec.specs.Symbols.{AreBytes, AreSymbols, be_bytes_of, symbols_of}
 use Rattle.generation.specs.declared.ticket.Ticket.{Ticket}
-use Rattle.generation.specs.Shape.{Dimensions, IsShape, generations_of, symbols_per_block}
+use Rattle.generation.specs.Shape.{Dimensions, IsShape, generations_of}
 use Rattle.packet_wire.specs.declared.manifest.Manifest.{Manifest}
-use Rattle.packet_wire.specs.Frame.{frame}
 use Rattle.packet_wire.specs.Stream.{IsManifest, IsTicket, IsPacket, manifest_body, ticket_body, packet_body, manifest_frame, ticket_frame, packet_frame, end_frame, Contents, spelling_of, IsStream, IsFirstStream}
 use Rattle.packet_wire.specs.Reading.{unchecked, NoPacketAt}
 use Rattle.packet_wire.proofs.Frames.{frame_unique, fronts_of_one_length}
-use Rattle.packet_wire.proofs.Bodies.{one_body, number16_unique, manifest_from, manifest_body_unique, length-manifest_body, length-unchecked_body}
+use Rattle.packet_wire.proofs.Bodies.{one_body, number16_unique, manifest_body_unique, length-manifest_body, length-unchecked_body}
 use Rattle.packet_wire.proofs.Packets.{TwoBytesEach, length-packet_body}
 
 -- the law that bytes determine symbols, which `read_stream` brings

@@ -1,14 +1,12 @@
 -- Packets' frames, one after another.
-use Rattle.std.proofs.Common.{◌≡◌, ◌≢◌, ℕ, ◌+◌, ◌*◌, ◌/◌, ◌%◌, ◌<◌, ◌≤◌, ◌^◌, List, [], ◌∷◌, ◌++◌, length, get_or, take, drop, refl, ap, subst, sym, ◌∙◌, arith, append_assoc}
+use Rattle.std.proofs.Common.{◌≡◌, ℕ, ◌+◌, ◌*◌, ◌<◌, ◌^◌, List, [], ◌∷◌, ◌++◌, length, take, ap, sym, ◌∙◌, arith, append_assoc}
 use Rattle.std.specs.Int.{w16, to_be_bytes}
-use Rattle.std.specs.List.{All, flat_map}
+use Rattle.std.specs.List.{flat_map}
 use Rattle.std.proofs.lemmas.Grind.{flat_map-append}
 use Rattle.std.proofs.lemmas.List.{length-append, append-nil}
-use Rattle.std.proofs.lemmas.List.Elements.{All-push, All-nil}
 use Rattle.linear_spec.specs.declared.packet.Packet.{Packet}
-use Rattle.linear_spec.specs.Packet.{Fits}
-use Rattle.linear_spec.specs.Symbols.{be_bytes_of, IsVector}
-use Rattle.generation.specs.Shape.{Dimensions, IsShape, generations_of, symbols_per_block}
+use Rattle.linear_spec.specs.Symbols.{be_bytes_of}
+use Rattle.generation.specs.Shape.{Dimensions, generations_of, symbols_per_block}
 use Rattle.packet_wire.specs.declared.packet.PacketFrame.{PacketFrame}
 use Rattle.packet_wire.specs.Frame.{frame, head}
 use Rattle.packet_wire.specs.Stream.{IsPacket, packet_body, packet_frame}

@@ -1,5 +1,5 @@
 -- A frame: ten bytes of head, and a body (docs/FORMATS.md).
-use Rattle.std.specs.Prelude.{ℕ, List, [], ◌∷◌, ◌++◌, length}
+use Rattle.std.specs.Prelude.{ℕ, List, ◌∷◌, ◌++◌, length}
 use Rattle.std.specs.Int.{w32, to_be_bytes}
 use Rattle.packet_wire.specs.declared.frame.Kind.{Kind}
 use Rattle.packet_wire.specs.declared.frame.Kind.TheVariants.{Manifest, Ticket, Packet, End}

@@ -1,4 +1,4 @@
-use Rattle.std.proofs.Common.{rules, sym, ◌∙◌}
+use Rattle.std.proofs.Common.{◌∙◌}
 use Rattle.avalanche_cli.proofs.PlainLemmas.{are_blocks}
 use Rattle.avalanche_cli.proofs.plain.plain_file.Goals as goal
 

@@ -1,6 +1,5 @@
-use Rattle.std.proofs.Common.{◌≡◌, ℕ, ◌++◌, ◌∷◌, [], refl, ◌∙◌, sym, ap, rules, arith}
+use Rattle.std.proofs.Common.{◌≡◌, ℕ, refl, ◌∙◌, sym, ap}
 use Rattle.linear_spec.specs.UnitVector.{unit_of}
-use Rattle.linear_spec.specs.Packet.{payloads_of}
 use Rattle.avalanche_cli.proofs.PlainLemmas.{same_from_ne, units_more, payloads_more}
 use Rattle.avalanche_cli.proofs.plain.unit_payloads.Goals as goal
 

@@ -1,4 +1,4 @@
-use Rattle.std.proofs.Common.{◌≡◌, ◌<◌, length, get_or, set, ap, ◌∙◌, arith}
+use Rattle.std.proofs.Common.{◌<◌, length, get_or, set, ap, ◌∙◌, arith}
 use Rattle.gf16.specs.Field.{sum_of}
 use Rattle.linear_spec.proofs.VectorLaws.{plus_scaled-none, plus_scaled_more}
 use Rattle.linear_spec.proofs.combination.add_scaled.Goals as goal

@@ -1,4 +1,4 @@
-use Rattle.std.proofs.Common.{arith, rules}
+use Rattle.std.proofs.Common.{arith}
 use Rattle.packet_wire.specs.Stream.{manifest_body}
 use Rattle.packet_wire.proofs.Bodies.{length-manifest_body, one_body}
 use Rattle.packet_wire.proofs.manifest.manifest_at.Goals as goal

@@ -1,9 +1,8 @@
-use Rattle.std.proofs.Common.{◌≡◌, List, ℕ, length, refl, sym, ◌∙◌, subst, ap, arith, rules}
+use Rattle.std.proofs.Common.{◌≡◌, length, refl, sym, ◌∙◌, subst, ap, arith, rules}
 use Rattle.std.specs.Prelude.{IsOk}
-use Rattle.generation.specs.Shape.{Dimensions, IsShape}
+use Rattle.generation.specs.Shape.{IsShape}
 use Rattle.packet_wire.specs.declared.manifest.Manifest.{Manifest}
-use Rattle.packet_wire.specs.Stream.{IsManifest, manifest_body}
-use Rattle.packet_wire.proofs.Bodies.{manifest_spelled, manifest_body_unique, manifest_from}
+use Rattle.packet_wire.proofs.Bodies.{manifest_spelled, manifest_body_unique}
 use Rattle.packet_wire.proofs.manifest.manifest_of.Goals as goal
 
 pub returns-in_err-shape : goal.returns-in_err-shape

@@ -1,4 +1,4 @@
-use Rattle.std.proofs.Common.{◌≡◌, ◌<◌, ◌^◌, arith, rules, refl, ap}
+use Rattle.std.proofs.Common.{◌<◌, ◌^◌, arith, rules}
 use Rattle.packet_wire.specs.Stream.{packet_body}
 use Rattle.packet_wire.proofs.Bodies.{one_body}
 use Rattle.packet_wire.proofs.Packets.{length-packet_body, packet_generation}

@@ -1,4 +1,3 @@
-use Rattle.std.proofs.Common.{◌≡◌, ◌<◌, length, List, [], ◌∷◌, ◌++◌, arith, rules}
 use Rattle.std.proofs.lemmas.List.Elements.{All-push}
 use Rattle.packet_wire.specs.Stream.{IsPacket}
 use Rattle.packet_wire.proofs.Packets.{stands_at, spelled_more, frame_is_not_empty}

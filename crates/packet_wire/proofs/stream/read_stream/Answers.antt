@@ -1,10 +1,9 @@
-use Rattle.std.proofs.Common.{◌≡◌, ◌++◌, List, ℕ, [], length, refl, sym, ap, subst, ◌∙◌, arith, rules}
-use Rattle.std.specs.List.{All, flat_map}
+use Rattle.std.proofs.Common.{◌++◌, refl, sym, ap, subst, ◌∙◌}
+use Rattle.std.specs.List.{flat_map}
 use Rattle.linear_spec.specs.Symbols.{AreBytes}
 use Rattle.generation.specs.Shape.{generations_of}
 use Rattle.packet_wire.specs.declared.manifest.Manifest.{Manifest}
-use Rattle.packet_wire.specs.Stream.{Contents, end_frame, packet_frame, ticket_frame, spelling_of}
-use Rattle.packet_wire.specs.Reading.{unchecked}
+use Rattle.packet_wire.specs.Stream.{end_frame, packet_frame, ticket_frame, spelling_of}
 use Rattle.packet_wire.proofs.OneReading.{after_manifest, first_stream, is_unchecked, one_reading, IsReadUpTo}
 use Rattle.packet_wire.proofs.stream.read_stream.Goals as goal
 

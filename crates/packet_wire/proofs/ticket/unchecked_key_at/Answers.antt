@@ -1,4 +1,4 @@
-use Rattle.std.proofs.Common.{◌≡◌, List, ℕ, length, refl, sym, ◌∙◌, ap, arith, rules, ◌++◌}
+use Rattle.std.proofs.Common.{List, ℕ, ◌∙◌, ap, arith, rules, ◌++◌}
 use Rattle.packet_wire.specs.Frame.{frame}
 use Rattle.packet_wire.specs.Stream.{ticket_body}
 use Rattle.packet_wire.specs.Reading.{unchecked}

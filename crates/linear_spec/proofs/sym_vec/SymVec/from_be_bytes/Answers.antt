@@ -1,6 +1,6 @@
-use Rattle.std.proofs.Common.{◌≡◌, ◌<◌, ◌^◌, ◌/◌, ◌++◌, List, ℕ, length, ap, sym, ◌∙◌, rules, arith}
+use Rattle.std.proofs.Common.{◌<◌, ◌^◌, rules}
 use Rattle.std.proofs.lemmas.List.Elements.{All-from_get_or}
-use Rattle.linear_spec.specs.Symbols.{AreBytes, symbols_of}
+use Rattle.linear_spec.specs.Symbols.{AreBytes}
 use Rattle.linear_spec.proofs.SymbolLemmas.{be_bytes_of-symbols_of, AreSymbols-symbols_of, length-symbols_of}
 use Rattle.linear_spec.proofs.sym_vec.SymVec.from_be_bytes.Goals as goal
 
