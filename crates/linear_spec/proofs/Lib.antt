@@ -2,6 +2,7 @@ pub mod Decision
 pub mod Echelon
 pub mod Equations
 pub mod Heads
+pub mod PacketLaws
 pub mod Places
 pub mod RankBounds
 pub mod Ranks
