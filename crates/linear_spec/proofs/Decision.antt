@@ -13,9 +13,9 @@ use Rattle.linear_spec.specs.Span.{InSpan}
 use Rattle.linear_spec.specs.Packet.{Fits, vector_of, vectors_of, coefficients_of}
 use Rattle.linear_spec.specs.Cases.{IsFresh, IsWithin}
 use Rattle.linear_spec.specs.Rows.{StandsFor, StandForAll, IsRowOf, pivot_of, first_nonzero, remainder_of}
-use Rattle.linear_spec.proofs.SpanLaws.{IsVector-take, take-plus_scaled, span-plus_scaled, span-scaled}
-use Rattle.linear_spec.proofs.Places.{IsVector-scaled, symbol_at, get_or-scaled}
-use Rattle.linear_spec.proofs.Equations.{plus_scaled_zero_vector, plus_twice, scaled-plus}
+use Rattle.linear_spec.proofs.SpanLaws.{IsVector-take, IsVector-scaled, take-plus_scaled, plus_scaled-zeros, span-plus_scaled, span-scaled}
+use Rattle.linear_spec.proofs.VectorLaws.{get_or-scaled}
+use Rattle.linear_spec.proofs.Equations.{symbol_at, plus_twice, scaled-plus}
 use Rattle.linear_spec.proofs.Echelon.{IsClear, IsVector-remainder, remainder-clear, remainder-in_span, echelon_zero}
 use Rattle.linear_spec.proofs.RowSpans.{IsSameSpan, IsVector-vector, IsVector-vectors, IsVector-coefficients, take-vector, span-coefficients, rows_fit, rows_same_span, rows_same_coefficients}
 use Rattle.linear_spec.proofs.RowPlaces.{echelon_coefficients, echelon_vectors, pivots_below, stand_push}
@@ -60,7 +60,7 @@ module _ (field : IsField) (k s : ℕ) (packets rows : List Packet) (packet : Pa
   in_span_from_remainder none =
       (rows_same_coefficients k s field packets rows fit stand).back packet.coeffs
       (subst (InSpan k (coefficients_of rows))
-          (ap (plus_scaled packet.coeffs 1) none ∙ plus_scaled_zero_vector field k 1 packet.coeffs fits.coeffs)
+          (ap (plus_scaled packet.coeffs 1) none ∙ plus_scaled-zeros field 1 k packet.coeffs)
           coefficients_sum)
 
   pub remainder_from_in_span : InSpan k (coefficients_of packets) packet.coeffs → take k remainder ≡ replicate k 0
@@ -76,7 +76,7 @@ module _ (field : IsField) (k s : ℕ) (packets rows : List Packet) (packet : Pa
   within_from_remainder none =
       (rows_same_span k s field packets rows fit stand).back vector
       (subst (InSpan (k + s) (vectors_of rows))
-          (ap (plus_scaled vector 1) none ∙ plus_scaled_zero_vector field (k + s) 1 vector by_vector)
+          (ap (plus_scaled vector 1) none ∙ plus_scaled-zeros field 1 (k + s) vector)
           sum_in_span)
 
   pub remainder_from_within : IsWithin k s packets packet → remainder ≡ replicate (k + s) 0
@@ -145,7 +145,7 @@ module _ (field : IsField) (k s : ℕ) (packets rows : List Packet) (packet row 
   same_pivot = ap first_nonzero is_row.coeffs ∙ first_nonzero-scaled field is_row.inverse coeffs is_row.inverse_is_symbol inverse_some by_coeffs.symbols
 
   at_coeffs : (place : ℕ) → get_or row.coeffs place 0 ≡ product_of is_row.inverse (get_or coeffs place 0)
-  at_coeffs place = ap (λ v. get_or v place 0) is_row.coeffs ∙ get_or-scaled field is_row.inverse coeffs place
+  at_coeffs place = ap (λ v. get_or v place 0) is_row.coeffs ∙ get_or-scaled field is_row.inverse place coeffs
 
   same_vector : vector_of row ≡ scaled is_row.inverse result
   same_vector =
@@ -161,8 +161,8 @@ module _ (field : IsField) (k s : ℕ) (packets rows : List Packet) (packet row 
         symbols = All-drop IsSymbol k result by_result.symbols;
       } in
       record {
-        coeffs = subst (IsVector k) (sym is_row.coeffs) (IsVector-scaled field k c coeffs by_c by_coeffs);
-        payload = subst (IsVector s) (sym is_row.payload) (IsVector-scaled field s c (drop k result) by_c by_payload);
+        coeffs = subst (IsVector k) (sym is_row.coeffs) (IsVector-scaled field k c coeffs by_coeffs by_c);
+        payload = subst (IsVector s) (sym is_row.payload) (IsVector-scaled field s c (drop k result) by_payload by_c);
       }
 
   pub row_stands : StandsFor k s packets rows packet row

@@ -10,10 +10,24 @@ use Rattle.linear_spec.specs.Symbols.{IsVector}
 use Rattle.linear_spec.specs.Span.{InSpan}
 use Rattle.linear_spec.specs.Packet.{vector_of}
 use Rattle.linear_spec.specs.Rows.{pivot_of, remainder_of}
-use Rattle.linear_spec.proofs.SpanLaws.{IsVector-span, span-empty, span-zero}
-use Rattle.linear_spec.proofs.Places.{IsVector-plus_scaled, symbol_at}
-use Rattle.linear_spec.proofs.Equations.{sum_twice, plus_scaled-zero, plus_around, plus_self, at_plus_scaled}
-use Rattle.linear_spec.proofs.Heads.{IsSplit, span-first, span-first_from, span-clear}
+use Rattle.linear_spec.proofs.SpanLaws.{IsVector-plus_scaled, plus_scaled-zero, IsVector-span, span-empty, span-zero, span-head, span-head_from}
+use Rattle.linear_spec.proofs.Equations.{get_or-zero, symbol_at, plus_around, plus_self, at_plus_scaled}
+
+-- where all vectors are 0 at a place, so is each of their span
+pub span-clear : (field : IsField) (n place : ℕ) (vs : List (List ℕ)) (v : List ℕ) → All (IsVector n) vs → All (λ w. get_or w place 0 ≡ 0) vs → InSpan n vs v → get_or v place 0 ≡ 0
+span-clear field n place [] v are clear span = ap (λ v. get_or v place 0) (span-empty n v span) ∙ get_or-zero n place
+span-clear field n place (w ∷ vs) v are clear span =
+    let by_w = All-head (IsVector n) w vs are in
+    let others = All-tail (IsVector n) w vs are in
+    let split = span-head field n w vs v by_w span in
+    let c = split.0 in
+    let by_rest = IsVector-span field n vs split.1 others split.3 in
+    ap (λ v. get_or v place 0) split.4
+    ∙ at_plus_scaled field n c split.1 w place by_rest by_w
+    ∙ ap (λ x. sum_of x (product_of c (get_or w place 0)))
+    (span-clear field n place vs split.1 others (All-tail (λ w. get_or w place 0 ≡ 0) w vs clear) split.3)
+    ∙ ap (λ x. sum_of 0 (product_of c x)) (All-head (λ w. get_or w place 0 ≡ 0) w vs clear)
+    ∙ ap (sum_of 0) (field.product_zero c)
 
 -- a vector is 0 at the pivot of a row
 abbrev pub IsClear : List ℕ → Packet → Type 0
@@ -40,22 +54,23 @@ module _ (field : IsField) (n : ℕ) (view : Packet → List ℕ) where
       let first = echelon.0 in
       let vectors = map view rows in
       let are = IsVector-rows rows echelon.1 in
-      let split = span-first field n (view row) vectors v first.is_vector span in
-      let by_rest = IsVector-span field n vectors split.rest are split.in_span in
+      let split = span-head field n (view row) vectors v first.is_vector span in
+      let c = split.0 in
+      let rest = split.1 in
       let pivot = pivot_of row in
-      let at_pivot : get_or split.rest pivot 0 ≡ 0 =
-          span-clear field n pivot vectors split.rest are (All-map (λ w. get_or w pivot 0 ≡ 0) view rows first.clear) split.in_span in
-      let none : split.multiple ≡ 0 =
-          sym (ap (λ v. get_or v pivot 0) split.is_sum
-              ∙ at_plus_scaled field n split.multiple split.rest (view row) pivot by_rest first.is_vector
-              ∙ ap (λ x. sum_of x (product_of split.multiple (get_or (view row) pivot 0))) at_pivot
-              ∙ ap (λ x. sum_of 0 (product_of split.multiple x)) first.one
-              ∙ ap (sum_of 0) (field.product_one split.multiple)
-              ∙ field.zero_sum split.multiple)
+      let at_pivot : get_or rest pivot 0 ≡ 0 =
+          span-clear field n pivot vectors rest are (All-map (λ w. get_or w pivot 0 ≡ 0) view rows first.clear) split.3 in
+      let none : c ≡ 0 =
+          sym (ap (λ v. get_or v pivot 0) split.4
+              ∙ at_plus_scaled field n c rest (view row) pivot (IsVector-span field n vectors rest are split.3) first.is_vector
+              ∙ ap (λ x. sum_of x (product_of c (get_or (view row) pivot 0))) at_pivot
+              ∙ ap (λ x. sum_of 0 (product_of c x)) first.one
+              ∙ ap (sum_of 0) (field.product_one c)
+              ∙ field.zero_sum c)
           ∙ All-head (IsClear v) row rows clear in
-      let same : v ≡ split.rest =
-          split.is_sum ∙ ap (λ c. plus_scaled split.rest c (view row)) none ∙ plus_scaled-zero field split.rest (view row) in
-      echelon_zero rows v echelon.1 (subst (InSpan n vectors) (sym same) split.in_span) (All-tail (IsClear v) row rows clear)
+      let same : v ≡ rest =
+          split.4 ∙ ap (λ d. plus_scaled rest d (view row)) none ∙ plus_scaled-zero field rest (view row) in
+      echelon_zero rows v echelon.1 (subst (InSpan n vectors) (sym same) split.3) (All-tail (IsClear v) row rows clear)
 
 module _ (field : IsField) (n : ℕ) where
   -- one step of a reduction
@@ -64,7 +79,7 @@ module _ (field : IsField) (n : ℕ) where
 
   IsVector-step : (row : Packet) (v : List ℕ) → IsVector n v → IsVector n (step row v)
   IsVector-step row v by_v =
-      IsVector-plus_scaled field n (get_or v (pivot_of row) 0) v (vector_of row) (symbol_at n v (pivot_of row) by_v) by_v
+      IsVector-plus_scaled field n (get_or v (pivot_of row) 0) v (vector_of row) by_v (symbol_at n v (pivot_of row) by_v)
 
   pub IsVector-remainder : (rows : List Packet) (v : List ℕ) → IsVector n v → IsVector n (remainder_of rows v)
   IsVector-remainder [] v by_v = by_v
@@ -107,6 +122,6 @@ module _ (field : IsField) (n : ℕ) where
       let later = step row v in
       let by_later = IsVector-step row v by_v in
       subst (InSpan n (vector_of row ∷ map vector_of rows))
-      (plus_around field n c v remainder (vector_of row) by_c by_v (IsVector-remainder rows later by_later) echelon.0.is_vector)
-      (span-first_from field n c (vector_of row) (map vector_of rows) (plus_scaled later 1 remainder) echelon.0.is_vector by_c
+      (plus_around field c v remainder (vector_of row))
+      (span-head_from field n c (vector_of row) (map vector_of rows) (plus_scaled later 1 remainder) echelon.0.is_vector by_c
           (remainder-in_span rows later echelon.1 by_later))

@@ -1,9 +1,7 @@
 pub mod Decision
 pub mod Echelon
 pub mod Equations
-pub mod Heads
 pub mod PacketLaws
-pub mod Places
 pub mod RankBounds
 pub mod Ranks
 pub mod RowPlaces

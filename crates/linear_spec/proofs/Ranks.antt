@@ -17,9 +17,10 @@ use Rattle.linear_spec.specs.Span.{InSpan, HasRankAfter, HasRank}
 use Rattle.linear_spec.specs.Packet.{Fits, vector_of, coefficients_of}
 use Rattle.linear_spec.specs.Rows.{StandForAll, IsRowOf, pivot_of, first_nonzero, remainder_of}
 use Rattle.linear_spec.proofs.SpanLaws.{IsVector-nil, IsVector-take, span-zero, span-member, span-grows, span-closed}
-use Rattle.linear_spec.proofs.Places.{symbol_at, get_or-zero}
+use Rattle.linear_spec.proofs.SpanChanges.{span-members}
+use Rattle.linear_spec.proofs.Equations.{symbol_at, get_or-zero}
 use Rattle.linear_spec.proofs.Echelon.{IsClear, IsEchelon, echelon_zero}
-use Rattle.linear_spec.proofs.RowSpans.{IsSameSpan, span-members, IsVector-coefficients, rows_fit}
+use Rattle.linear_spec.proofs.RowSpans.{IsSameSpan, IsVector-coefficients, rows_fit}
 use Rattle.linear_spec.proofs.RowPlaces.{echelon_coefficients, pivots_below, stand_none}
 use Rattle.linear_spec.proofs.Decision.{by_remainder, in_span_from_remainder, row_joins}
 use Rattle.linear_spec.proofs.SpanDecides.{span_decides}

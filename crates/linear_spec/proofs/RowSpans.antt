@@ -12,6 +12,7 @@ use Rattle.linear_spec.specs.Span.{InSpan}
 use Rattle.linear_spec.specs.Packet.{Fits, vector_of, vectors_of, coefficients_of}
 use Rattle.linear_spec.specs.Rows.{StandsFor, StandForAll}
 use Rattle.linear_spec.proofs.SpanLaws.{span-scaled, span-member, span-grows, span-closed, span-last_from, span-take}
+use Rattle.linear_spec.proofs.SpanChanges.{span-members}
 use Rattle.linear_spec.proofs.Equations.{scaled-plus_inverse}
 
 -- two lists of vectors with the same span
@@ -23,14 +24,6 @@ pub All-from_map : {X Y : Type 0} (P : Y → Type 0) (f : X → Y) (xs : List X)
 All-from_map P f [] all = All-nil (λ x. P (f x))
 All-from_map P f (x ∷ xs) all =
     All-cons (λ x. P (f x)) x xs (All-head P (f x) (map f xs) all) (All-from_map P f xs (All-tail P (f x) (map f xs) all))
-
-pub span-members : (field : IsField) (n : ℕ) (vs : List (List ℕ)) → All (IsVector n) vs → All (InSpan n vs) vs
-span-members field n vs are i default below =
-    let v = get_or vs i default in
-    let split : take i vs ++ (v ∷ drop (suc i) vs) ≡ vs =
-        ap (λ rest. take i vs ++ rest) (sym (drop-cons vs i default below)) ∙ take-append-drop i vs in
-    subst (λ us. InSpan n us v) split
-    (span-member field n (take i vs) (drop (suc i) vs) v (subst (All (IsVector n)) (sym split) are))
 
 module _ (field : IsField) (n : ℕ) where
   pub same_span_push : (vs ws : List (List ℕ)) (v w : List ℕ) (m : ℕ) → All (IsVector n) vs → All (IsVector n) ws → IsVector n v → IsVector n w
