@@ -15,7 +15,7 @@ use Rattle.linear_spec.specs.Cases.{IsFresh, IsWithin}
 use Rattle.linear_spec.specs.Rows.{StandsFor, StandForAll, IsRowOf, pivot_of, first_nonzero, remainder_of}
 use Rattle.linear_spec.proofs.SpanLaws.{IsVector-take, IsVector-scaled, take-plus_scaled, plus_scaled-zeros, span-plus_scaled, span-scaled}
 use Rattle.linear_spec.proofs.VectorLaws.{get_or-scaled}
-use Rattle.linear_spec.proofs.Equations.{symbol_at, plus_twice, scaled-plus}
+use Rattle.linear_spec.proofs.VectorSums.{symbol_at, plus_twice, scaled-plus}
 use Rattle.linear_spec.proofs.Echelon.{IsClear, IsVector-remainder, remainder-clear, remainder-in_span, echelon_zero}
 use Rattle.linear_spec.proofs.RowSpans.{IsSameSpan, IsVector-vector, IsVector-vectors, IsVector-coefficients, take-vector, span-coefficients, rows_fit, rows_same_span, rows_same_coefficients}
 use Rattle.linear_spec.proofs.RowPlaces.{echelon_coefficients, echelon_vectors, pivots_below, stand_push}
@@ -60,8 +60,8 @@ module _ (field : IsField) (k s : ℕ) (packets rows : List Packet) (packet : Pa
   in_span_from_remainder none =
       (rows_same_coefficients k s field packets rows fit stand).back packet.coeffs
       (subst (InSpan k (coefficients_of rows))
-          (ap (plus_scaled packet.coeffs 1) none ∙ plus_scaled-zeros field 1 k packet.coeffs)
-          coefficients_sum)
+      (ap (plus_scaled packet.coeffs 1) none ∙ plus_scaled-zeros field 1 k packet.coeffs)
+      coefficients_sum)
 
   pub remainder_from_in_span : InSpan k (coefficients_of packets) packet.coeffs → take k remainder ≡ replicate k 0
   remainder_from_in_span span =
@@ -69,15 +69,15 @@ module _ (field : IsField) (k s : ℕ) (packets rows : List Packet) (packet : Pa
       let mine = (rows_same_coefficients k s field packets rows fit stand).forth packet.coeffs span in
       echelon_zero field k (λ row. row.coeffs) rows (take k remainder) (echelon_coefficients k s packets rows stand)
       (subst (InSpan k (coefficients_of rows)) (plus_twice field k packet.coeffs (take k remainder) fits.coeffs by_coefficients)
-          (span-plus_scaled field k 1 (coefficients_of rows) packet.coeffs (plus_scaled packet.coeffs 1 (take k remainder)) by_rows one mine coefficients_sum))
+      (span-plus_scaled field k 1 (coefficients_of rows) packet.coeffs (plus_scaled packet.coeffs 1 (take k remainder)) by_rows one mine coefficients_sum))
       clear_coefficients
 
   pub within_from_remainder : remainder ≡ replicate (k + s) 0 → IsWithin k s packets packet
   within_from_remainder none =
       (rows_same_span k s field packets rows fit stand).back vector
       (subst (InSpan (k + s) (vectors_of rows))
-          (ap (plus_scaled vector 1) none ∙ plus_scaled-zeros field 1 (k + s) vector)
-          sum_in_span)
+      (ap (plus_scaled vector 1) none ∙ plus_scaled-zeros field 1 (k + s) vector)
+      sum_in_span)
 
   pub remainder_from_within : IsWithin k s packets packet → remainder ≡ replicate (k + s) 0
   remainder_from_within span =
@@ -85,7 +85,7 @@ module _ (field : IsField) (k s : ℕ) (packets rows : List Packet) (packet : Pa
       let mine = (rows_same_span k s field packets rows fit stand).forth vector span in
       echelon_zero field (k + s) vector_of rows remainder (echelon_vectors k s packets rows stand)
       (subst (InSpan (k + s) (vectors_of rows)) (plus_twice field (k + s) vector remainder by_vector by_remainder)
-          (span-plus_scaled field (k + s) 1 (vectors_of rows) vector (plus_scaled vector 1 remainder) by_rows one mine sum_in_span))
+      (span-plus_scaled field (k + s) 1 (vectors_of rows) vector (plus_scaled vector 1 remainder) by_rows one mine sum_in_span))
       clear
 
   pub fresh_exactly : IsFresh k packets packet ↔ (take k remainder ≢ replicate k 0)
@@ -96,7 +96,7 @@ module _ (field : IsField) (k s : ℕ) (packets rows : List Packet) (packet : Pa
     λ within. ap (drop k) (remainder_from_within within) ∙ drop-replicate k (k + s) 0
         ∙ ap (λ n. replicate n 0) (let same : k + s - k ≡ s = omega arith in same),
     λ rest. within_from_remainder (sym (take-append-drop k remainder) ∙ ap (λ c. c ++ drop k remainder) none
-        ∙ ap (λ p. replicate k 0 ++ p) rest ∙ replicate-append-replicate k s 0)
+        ∙ ap (λ p. replicate k 0 ++ p) rest ∙ replicate-append-replicate k s 0),
   )
 
 -- a multiple that is not 0 keeps the place of the first symbol that is not 0
@@ -106,7 +106,7 @@ first_nonzero-scaled field c (zero ∷ v) by_c some fit =
     rw (field.product_zero c) (ap (λ n. 1 + n) (first_nonzero-scaled field c v by_c some (All-tail IsSymbol 0 v fit)))
 first_nonzero-scaled field c (suc x ∷ v) by_c some fit =
     let product_some : product_of c (suc x) ≢ 0 =
-        λ none. ⊎_elim some (λ e. absurd (omega arith)) (field.no_zero_divisors c (suc x) by_c (All-head IsSymbol (suc x) v fit) none) in
+    λ none. ⊎_elim some (λ e. absurd (omega arith)) (field.no_zero_divisors c (suc x) by_c (All-head IsSymbol (suc x) v fit) none) in
     rw (ne_eqb (product_of c (suc x)) 0 product_some, ne_eqb (suc x) 0 (λ none. absurd (omega arith))) refl
 
 -- a symbol that is not 0 stands at the first such place, which is a place
@@ -183,8 +183,8 @@ module _ (field : IsField) (k s : ℕ) (packets rows : List Packet) (packet row 
         multiple_is_not_zero = inverse_some;
         in_span = (rows_same_span k s field packets rows fit stand).back (plus_scaled (vector_of row) c vector)
             (subst (InSpan (k + s) (vectors_of rows))
-                (scaled-plus field (k + s) c result vector by_c by_result by_vector ∙ ap (λ v. plus_scaled v c vector) (sym same_vector))
-                (span-scaled field (k + s) c (vectors_of rows) (plus_scaled vector 1 result) by_rows by_c sum));
+            (scaled-plus field (k + s) c result vector by_c by_result by_vector ∙ ap (λ v. plus_scaled v c vector) (sym same_vector))
+            (span-scaled field (k + s) c (vectors_of rows) (plus_scaled vector 1 result) by_rows by_c sum));
         pivot_below = subst (λ p. p < k) (sym same_pivot) below;
         one_at_pivot = ap (λ p. get_or row.coeffs p 0) same_pivot ∙ at_coeffs (first_nonzero coeffs)
             ∙ field.product_commutes c first by_c (symbol_at k coeffs (first_nonzero coeffs) by_coeffs) ∙ is_row.is_inverse;

@@ -11,7 +11,7 @@ use Rattle.linear_spec.specs.Span.{InSpan}
 use Rattle.linear_spec.specs.Packet.{vector_of}
 use Rattle.linear_spec.specs.Rows.{pivot_of, remainder_of}
 use Rattle.linear_spec.proofs.SpanLaws.{IsVector-plus_scaled, plus_scaled-zero, IsVector-span, span-empty, span-zero, span-head, span-head_from}
-use Rattle.linear_spec.proofs.Equations.{get_or-zero, symbol_at, plus_around, plus_self, at_plus_scaled}
+use Rattle.linear_spec.proofs.VectorSums.{get_or-zero, symbol_at, plus_around, plus_self, at_plus_scaled}
 
 -- where all vectors are 0 at a place, so is each of their span
 pub span-clear : (field : IsField) (n place : ℕ) (vs : List (List ℕ)) (v : List ℕ) → All (IsVector n) vs → All (λ w. get_or w place 0 ≡ 0) vs → InSpan n vs v → get_or v place 0 ≡ 0
@@ -59,17 +59,17 @@ module _ (field : IsField) (n : ℕ) (view : Packet → List ℕ) where
       let rest = split.1 in
       let pivot = pivot_of row in
       let at_pivot : get_or rest pivot 0 ≡ 0 =
-          span-clear field n pivot vectors rest are (All-map (λ w. get_or w pivot 0 ≡ 0) view rows first.clear) split.3 in
+      span-clear field n pivot vectors rest are (All-map (λ w. get_or w pivot 0 ≡ 0) view rows first.clear) split.3 in
       let none : c ≡ 0 =
-          sym (ap (λ v. get_or v pivot 0) split.4
-              ∙ at_plus_scaled field n c rest (view row) pivot (IsVector-span field n vectors rest are split.3) first.is_vector
-              ∙ ap (λ x. sum_of x (product_of c (get_or (view row) pivot 0))) at_pivot
-              ∙ ap (λ x. sum_of 0 (product_of c x)) first.one
-              ∙ ap (sum_of 0) (field.product_one c)
-              ∙ field.zero_sum c)
-          ∙ All-head (IsClear v) row rows clear in
+      sym (ap (λ v. get_or v pivot 0) split.4
+      ∙ at_plus_scaled field n c rest (view row) pivot (IsVector-span field n vectors rest are split.3) first.is_vector
+      ∙ ap (λ x. sum_of x (product_of c (get_or (view row) pivot 0))) at_pivot
+      ∙ ap (λ x. sum_of 0 (product_of c x)) first.one
+      ∙ ap (sum_of 0) (field.product_one c)
+      ∙ field.zero_sum c)
+      ∙ All-head (IsClear v) row rows clear in
       let same : v ≡ rest =
-          split.4 ∙ ap (λ d. plus_scaled rest d (view row)) none ∙ plus_scaled-zero field rest (view row) in
+      split.4 ∙ ap (λ d. plus_scaled rest d (view row)) none ∙ plus_scaled-zero field rest (view row) in
       echelon_zero rows v echelon.1 (subst (InSpan n vectors) (sym same) split.3) (All-tail (IsClear v) row rows clear)
 
 module _ (field : IsField) (n : ℕ) where
@@ -92,9 +92,9 @@ module _ (field : IsField) (n : ℕ) where
   keeps_place (row ∷ rows) v place echelon clear by_v =
       let c = get_or v (pivot_of row) 0 in
       let kept : get_or (step row v) place 0 ≡ get_or v place 0 =
-          at_plus_scaled field n c v (vector_of row) place by_v echelon.0.is_vector
-          ∙ ap (λ x. sum_of (get_or v place 0) (product_of c x)) (All-head (λ row. get_or (vector_of row) place 0 ≡ 0) row rows clear)
-          ∙ ap (sum_of (get_or v place 0)) (field.product_zero c) ∙ field.sum_zero (get_or v place 0) in
+      at_plus_scaled field n c v (vector_of row) place by_v echelon.0.is_vector
+      ∙ ap (λ x. sum_of (get_or v place 0) (product_of c x)) (All-head (λ row. get_or (vector_of row) place 0 ≡ 0) row rows clear)
+      ∙ ap (sum_of (get_or v place 0)) (field.product_zero c) ∙ field.sum_zero (get_or v place 0) in
       keeps_place rows (step row v) place echelon.1 (All-tail (λ row. get_or (vector_of row) place 0 ≡ 0) row rows clear) (IsVector-step row v by_v)
       ∙ kept
 
@@ -105,8 +105,8 @@ module _ (field : IsField) (n : ℕ) where
       let pivot = pivot_of row in
       let c = get_or v pivot 0 in
       let gone : get_or (step row v) pivot 0 ≡ 0 =
-          at_plus_scaled field n c v (vector_of row) pivot by_v first.is_vector
-          ∙ ap (λ x. sum_of c (product_of c x)) first.one ∙ ap (sum_of c) (field.product_one c) ∙ field.sum_self c in
+      at_plus_scaled field n c v (vector_of row) pivot by_v first.is_vector
+      ∙ ap (λ x. sum_of c (product_of c x)) first.one ∙ ap (sum_of c) (field.product_one c) ∙ field.sum_self c in
       All-cons (IsClear (remainder_of rows (step row v))) row rows
       (keeps_place rows (step row v) pivot echelon.1 first.clear (IsVector-step row v by_v) ∙ gone)
       (remainder-clear rows (step row v) echelon.1 (IsVector-step row v by_v))
@@ -124,4 +124,4 @@ module _ (field : IsField) (n : ℕ) where
       subst (InSpan n (vector_of row ∷ map vector_of rows))
       (plus_around field c v remainder (vector_of row))
       (span-head_from field n c (vector_of row) (map vector_of rows) (plus_scaled later 1 remainder) echelon.0.is_vector by_c
-          (remainder-in_span rows later echelon.1 by_later))
+      (remainder-in_span rows later echelon.1 by_later))

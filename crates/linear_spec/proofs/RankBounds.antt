@@ -18,7 +18,7 @@ use Rattle.linear_spec.specs.Cases.{IsFresh}
 use Rattle.linear_spec.specs.Rows.{StandForAll, IsRowOf, pivot_of, first_nonzero, remainder_of}
 use Rattle.linear_spec.proofs.SpanLaws.{IsVector-nil, IsVector-take, span-zero, span-grows, span-closed}
 use Rattle.linear_spec.proofs.SpanChanges.{span-members}
-use Rattle.linear_spec.proofs.Equations.{symbol_at, get_or-zero, plus_self}
+use Rattle.linear_spec.proofs.VectorSums.{symbol_at, get_or-zero, plus_self}
 use Rattle.linear_spec.proofs.RowSpans.{IsSameSpan, same_span_push, IsVector-coefficients, rows_fit}
 use Rattle.linear_spec.proofs.RowPlaces.{cleared_at, row_at, pivots_below, stand_none}
 use Rattle.linear_spec.proofs.Decision.{by_remainder, in_span_from_remainder, row_joins}
@@ -44,10 +44,9 @@ module _ (field : IsField) (k s : ℕ) (packets rows : List Packet) (packet : Pa
       let coeffs = take k result in
       let by_coeffs = IsVector-take k s result (by_remainder field k s packets rows packet fit fits stand) in
       let some = first_nonzero-some k coeffs by_coeffs.count (λ none. fresh (in_span_from_remainder field k s packets rows packet fit fits stand none)) in
-      let inverse = field.inverse (get_or coeffs (first_nonzero coeffs) 0) (symbol_at k coeffs (first_nonzero coeffs) by_coeffs) some in
-      (
+      let inverse = field.inverse (get_or coeffs (first_nonzero coeffs) 0) (symbol_at k coeffs (first_nonzero coeffs) by_coeffs) some in (
         record { generation = 0; coeffs = scaled inverse.0 coeffs; payload = scaled inverse.0 (drop k result) },
-        record { inverse = inverse.0; inverse_is_symbol = inverse.1; is_inverse = inverse.2; coeffs = refl; payload = refl }
+        record { inverse = inverse.0; inverse_is_symbol = inverse.1; is_inverse = inverse.2; coeffs = refl; payload = refl },
       )
 
 module _ (k s : ℕ) (packets rows : List Packet) (stand : StandForAll k s packets rows) where
@@ -55,8 +54,8 @@ module _ (k s : ℕ) (packets rows : List Packet) (stand : StandForAll k s packe
   pivots_differ i j d h l same =
       let row = get_or rows j d in
       let e : ◌≡◌ {A = ℕ} 0 1 =
-          sym (cleared_at k s packets rows stand i j d h l) ∙ ap (λ p. get_or row.coeffs p 0) same
-          ∙ (row_at k s packets rows stand j d l).one_at_pivot in
+      sym (cleared_at k s packets rows stand i j d h l) ∙ ap (λ p. get_or row.coeffs p 0) same
+      ∙ (row_at k s packets rows stand j d l).one_at_pivot in
       absurd (omega arith)
 
   pub rows_at_most : length rows ≤ k
@@ -65,21 +64,21 @@ module _ (k s : ℕ) (packets rows : List Packet) (stand : StandForAll k s packe
       let pivots = map pivot_of rows in
       let count = length-map rows pivot_of in
       let at : (i e : ℕ) → i < length pivots → get_or pivots i e ≡ pivot_of (get_or rows i blank) =
-          λ i e h. get_or-map pivot_of rows i blank e (omega arith) in
+      λ i e h. get_or-map pivot_of rows i blank e (omega arith) in
       let most : length pivots ≤ k =
-          length-le_from_distinct_below pivots k
-          (IsDistinct-from_AllPairs Decides-eqb pivots (λ i j e h l same.
-              let before : i < length pivots = omega arith in
-              pivots_differ i j blank h (omega arith) (sym (at i e before) ∙ same ∙ at j e l)))
-          (λ q found.
-              let any = Any-from_list_any (eqb q) pivots found in
-              let place = any.0 in
-              let inside = any.2 in
-              let same = eqb-true q any.1 any.4 in
-              let value = at place any.1 inside in
-              let is = any.3 in
-              let below = pivots_below k s packets rows stand place blank (omega arith) in
-              subst (λ p. p < k) (sym (same ∙ sym is ∙ value)) below) in
+      length-le_from_distinct_below pivots k
+      (IsDistinct-from_AllPairs Decides-eqb pivots (λ i j e h l same.
+      let before : i < length pivots = omega arith in
+      pivots_differ i j blank h (omega arith) (sym (at i e before) ∙ same ∙ at j e l)))
+      (λ q found.
+      let any = Any-from_list_any (eqb q) pivots found in
+      let place = any.0 in
+      let inside = any.2 in
+      let same = eqb-true q any.1 any.4 in
+      let value = at place any.1 inside in
+      let is = any.3 in
+      let below = pivots_below k s packets rows stand place blank (omega arith) in
+      subst (λ p. p < k) (sym (same ∙ sym is ∙ value)) below) in
       omega arith
 
 rank_with_rows : (field : IsField) (n : ℕ) (before vs : List (List ℕ)) (r : ℕ) (packets rows : List Packet) → All (Fits n 0) packets → StandForAll n 0 packets rows
@@ -93,10 +92,10 @@ rank_with_rows field n before (v ∷ vs) r packets rows fit stand by_before are 
     let longer = All-push (IsVector n) before v by_before by_v in
     rank_with_rows field n (before ++ v ∷ []) vs r packets rows fit stand longer (All-tail (IsVector n) v vs are)
     (record {
-        forth = λ u span. same.forth u (span-closed field n (before ++ v ∷ []) before u longer by_before
-            (All-push (InSpan n before) before v (span-members field n before by_before) within.0) span);
-        back = λ u span. span-grows field n before (v ∷ []) u longer (same.back u span);
-      })
+      forth = λ u span. same.forth u (span-closed field n (before ++ v ∷ []) before u longer by_before
+          (All-push (InSpan n before) before v (span-members field n before by_before) within.0) span);
+      back = λ u span. span-grows field n before (v ∷ []) u longer (same.back u span);
+    })
     within.1
 rank_with_rows field n before (v ∷ vs) r packets rows fit stand by_before are same (inr fresh) =
     let by_v = All-head (IsVector n) v vs are in
@@ -105,14 +104,14 @@ rank_with_rows field n before (v ∷ vs) r packets rows fit stand by_before are 
     let row = fresh_gives_row field n 0 packets rows packet fit fits stand (λ span. fresh.0 (same.back v span)) in
     let by_packets = IsVector-coefficients n 0 packets fit in
     let pushed : IsSameSpan n (before ++ v ∷ []) (coefficients_of packets ++ v ∷ []) =
-        same_span_push field n before (coefficients_of packets) v v 1 by_before by_packets by_v by_v (lit< tt) (λ e. absurd (omega arith))
-        (subst (InSpan n before) (sym (plus_self field n v by_v)) (span-zero field n before by_before)) same in
+    same_span_push field n before (coefficients_of packets) v v 1 by_before by_packets by_v by_v (lit< tt) (λ e. absurd (omega arith))
+    (subst (InSpan n before) (sym (plus_self field n v by_v)) (span-zero field n before by_before)) same in
     let rest = rank_with_rows field n (before ++ v ∷ []) vs fresh.1 (packets ++ packet ∷ []) (rows ++ row.0 ∷ [])
-        (All-push (Fits n 0) packets packet fit fits)
-        (row_joins field n 0 packets rows packet row.0 fit fits stand row.1)
-        (All-push (IsVector n) before v by_before by_v) (All-tail (IsVector n) v vs are)
-        (subst (IsSameSpan n (before ++ v ∷ [])) (sym (map_push (λ packet. packet.coeffs) packets packet)) pushed)
-        fresh.3 in
+    (All-push (Fits n 0) packets packet fit fits)
+    (row_joins field n 0 packets rows packet row.0 fit fits stand row.1)
+    (All-push (IsVector n) before v by_before by_v) (All-tail (IsVector n) v vs are)
+    (subst (IsSameSpan n (before ++ v ∷ [])) (sym (map_push (λ packet. packet.coeffs) packets packet)) pushed)
+    fresh.3 in
     let e = fresh.2 in
     omega (arith, length_push packets packet)
 

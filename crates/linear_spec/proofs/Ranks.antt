@@ -18,7 +18,7 @@ use Rattle.linear_spec.specs.Packet.{Fits, vector_of, coefficients_of}
 use Rattle.linear_spec.specs.Rows.{StandForAll, IsRowOf, pivot_of, first_nonzero, remainder_of}
 use Rattle.linear_spec.proofs.SpanLaws.{IsVector-nil, IsVector-take, span-zero, span-member, span-grows, span-closed}
 use Rattle.linear_spec.proofs.SpanChanges.{span-members}
-use Rattle.linear_spec.proofs.Equations.{symbol_at, get_or-zero}
+use Rattle.linear_spec.proofs.VectorSums.{symbol_at, get_or-zero}
 use Rattle.linear_spec.proofs.Echelon.{IsClear, IsEchelon, echelon_zero}
 use Rattle.linear_spec.proofs.RowSpans.{IsSameSpan, IsVector-coefficients, rows_fit}
 use Rattle.linear_spec.proofs.RowPlaces.{echelon_coefficients, pivots_below, stand_none}
@@ -72,7 +72,7 @@ rank_of_fresh n front (v ∷ vs) fresh = inr (
   length vs,
   refl,
   rank_of_fresh n (front ++ v ∷ []) vs (λ i d h span.
-      fresh (suc i) d (omega arith) (subst (λ us. InSpan n us (get_or vs i d)) (append_assoc front (v ∷ []) (take i vs)) span))
+      fresh (suc i) d (omega arith) (subst (λ us. InSpan n us (get_or vs i d)) (append_assoc front (v ∷ []) (take i vs)) span)),
 )
 
 echelon-take : (n : ℕ) (view : Packet → List ℕ) (i : ℕ) (rows : List Packet) → IsEchelon n view rows → IsEchelon n view (take i rows)
@@ -84,7 +84,7 @@ echelon-take n view (suc i) (row ∷ rows) echelon = (
     one = echelon.0.one;
     clear = All-take (λ other. IsClear (view other) row) i rows echelon.0.clear;
   },
-  echelon-take n view i rows echelon.1
+  echelon-take n view i rows echelon.1,
 )
 
 module _ (field : IsField) (k s : ℕ) (packets rows : List Packet) (stand : StandForAll k s packets rows) where
@@ -94,8 +94,8 @@ module _ (field : IsField) (k s : ℕ) (packets rows : List Packet) (stand : Sta
       let row = get_or rows i d in
       let stands = stand.each i d d (omega arith) in
       let zeros : row.coeffs ≡ replicate k 0 =
-          echelon_zero field k (λ packet. packet.coeffs) (take i rows) row.coeffs
-          (echelon-take k (λ packet. packet.coeffs) i rows (echelon_coefficients k s packets rows stand)) span stands.cleared in
+      echelon_zero field k (λ packet. packet.coeffs) (take i rows) row.coeffs
+      (echelon-take k (λ packet. packet.coeffs) i rows (echelon_coefficients k s packets rows stand)) span stands.cleared in
       let e : ◌≡◌ {A = ℕ} 0 1 = sym (ap (λ v. get_or v (pivot_of row) 0) zeros ∙ get_or-zero k (pivot_of row)) ∙ stands.one_at_pivot in
       absurd (omega arith)
 
@@ -103,8 +103,8 @@ module _ (field : IsField) (k s : ℕ) (packets rows : List Packet) (stand : Sta
   rows_rank =
       subst (HasRank k (coefficients_of rows)) (length-map rows (λ packet. packet.coeffs))
       (rank_of_fresh k [] (coefficients_of rows) (λ i d h span.
-          let blank : Packet = record { generation = 0; coeffs = d; payload = [] } in
-          let below : i < length rows = omega (arith, length-map rows (λ packet. packet.coeffs)) in
-          row_fresh i blank below
-          (subst (InSpan k (coefficients_of (take i rows))) (get_or-map (λ packet. packet.coeffs) rows i blank d below)
-              (subst (λ us. InSpan k us (get_or (coefficients_of rows) i d)) (take-map (λ packet. packet.coeffs) i rows) span))))
+      let blank : Packet = record { generation = 0; coeffs = d; payload = [] } in
+      let below : i < length rows = omega (arith, length-map rows (λ packet. packet.coeffs)) in
+      row_fresh i blank below
+      (subst (InSpan k (coefficients_of (take i rows))) (get_or-map (λ packet. packet.coeffs) rows i blank d below)
+      (subst (λ us. InSpan k us (get_or (coefficients_of rows) i d)) (take-map (λ packet. packet.coeffs) i rows) span))))

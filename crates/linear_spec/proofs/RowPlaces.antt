@@ -27,7 +27,7 @@ echelon_from_places n view (row ∷ rows) places = (
     is_vector = λ i d h. places.is_vector (suc i) d (omega arith);
     one = λ i d h. places.one (suc i) d (omega arith);
     clear = λ i j d h l. places.clear (suc i) (suc j) d (omega arith) (omega arith);
-  })
+  }),
 )
 
 module _ (k s : ℕ) (packets rows : List Packet) (stand : StandForAll k s packets rows) where
@@ -90,6 +90,7 @@ stand_push k s packets rows packet row stand last =
         let below : i < length rows = omega arith in
         rw (take-append-le i packets (packet ∷ []) (omega arith), take-append-le i rows (row ∷ []) (omega arith), get_or_append_left packets (packet ∷ []) p i l, get_or_append_left rows (row ∷ []) q i below)
         (stand.each i p q l)
+
     here : (i : ℕ) (p q : Packet) → i ≡ length packets → StandsFor k s (take i (packets ++ packet ∷ [])) (take i (rows ++ row ∷ [])) (get_or (packets ++ packet ∷ []) i p) (get_or (rows ++ row ∷ []) i q)
     here i p q e =
         let count = stand.count in

@@ -13,7 +13,7 @@ use Rattle.linear_spec.specs.Packet.{Fits, vector_of, vectors_of, coefficients_o
 use Rattle.linear_spec.specs.Rows.{StandsFor, StandForAll}
 use Rattle.linear_spec.proofs.SpanLaws.{span-scaled, span-member, span-grows, span-closed, span-last_from, span-take}
 use Rattle.linear_spec.proofs.SpanChanges.{span-members}
-use Rattle.linear_spec.proofs.Equations.{scaled-plus_inverse}
+use Rattle.linear_spec.proofs.VectorSums.{scaled-plus_inverse}
 
 -- two lists of vectors with the same span
 pub record IsSameSpan (n : ℕ) (vs ws : List (List ℕ)) : Type 0 where
@@ -33,19 +33,19 @@ module _ (field : IsField) (n : ℕ) where
       let by_others = All-push (IsVector n) ws w by_ws by_w in
       let inverse = field.inverse m by_m some in
       let v_too : InSpan n (ws ++ w ∷ []) v =
-          span-last_from field n inverse.0 ws w v by_ws by_w by_v inverse.1
-          (subst (InSpan n ws) (scaled-plus_inverse field n inverse.0 m w v inverse.1 by_m inverse.2 by_w by_v)
-              (span-scaled field n inverse.0 ws (plus_scaled w m v) by_ws inverse.1 (same.forth (plus_scaled w m v) sum))) in
+      span-last_from field n inverse.0 ws w v by_ws by_w by_v inverse.1
+      (subst (InSpan n ws) (scaled-plus_inverse field n inverse.0 m w v inverse.1 by_m inverse.2 by_w by_v)
+      (span-scaled field n inverse.0 ws (plus_scaled w m v) by_ws inverse.1 (same.forth (plus_scaled w m v) sum))) in
       let w_too : InSpan n (vs ++ v ∷ []) w = span-last_from field n m vs v w by_vs by_v by_w by_m sum in
       record {
         forth = λ u. span-closed field n (vs ++ v ∷ []) (ws ++ w ∷ []) u by_more by_others
             (All-push (InSpan n (ws ++ w ∷ [])) vs v
-                (All-weaker (InSpan n vs) (InSpan n (ws ++ w ∷ [])) (λ x h. span-grows field n ws (w ∷ []) x by_others (same.forth x h)) vs (span-members field n vs by_vs))
-                v_too);
+            (All-weaker (InSpan n vs) (InSpan n (ws ++ w ∷ [])) (λ x h. span-grows field n ws (w ∷ []) x by_others (same.forth x h)) vs (span-members field n vs by_vs))
+            v_too);
         back = λ u. span-closed field n (ws ++ w ∷ []) (vs ++ v ∷ []) u by_others by_more
             (All-push (InSpan n (vs ++ v ∷ [])) ws w
-                (All-weaker (InSpan n ws) (InSpan n (vs ++ v ∷ [])) (λ x h. span-grows field n vs (v ∷ []) x by_more (same.back x h)) ws (span-members field n ws by_ws))
-                w_too);
+            (All-weaker (InSpan n ws) (InSpan n (vs ++ v ∷ [])) (λ x h. span-grows field n vs (v ∷ []) x by_more (same.back x h)) ws (span-members field n ws by_ws))
+            w_too);
       }
 
 module _ (k s : ℕ) where
@@ -87,10 +87,10 @@ module _ (k s : ℕ) where
       let members = All-from_map (InSpan (k + s) (vectors_of packets)) vector_of packets (span-members field (k + s) (vectors_of packets) (IsVector-vectors packets fit)) in
       span-closed field k (coefficients_of packets) (coefficients_of rows) c (IsVector-coefficients packets fit) (IsVector-coefficients rows rows_fit)
       (All-map (InSpan k (coefficients_of rows)) (λ packet. packet.coeffs) packets
-          (λ i d below.
-              let packet = get_or packets i d in
-              subst (InSpan k (coefficients_of rows)) (take-vector packet (fit i d below))
-              (span-coefficients field rows (vector_of packet) rows_fit (within (vector_of packet) (members i d below)))))
+      (λ i d below.
+      let packet = get_or packets i d in
+      subst (InSpan k (coefficients_of rows)) (take-vector packet (fit i d below))
+      (span-coefficients field rows (vector_of packet) rows_fit (within (vector_of packet) (members i d below)))))
       span
 
   pub coefficients_same : (field : IsField) (packets rows : List Packet) → All (Fits k s) packets → All (Fits k s) rows
@@ -119,13 +119,13 @@ module _ (k s : ℕ) where
       let by_rows = rows_fit packets rows stand in
       let earlier = rows_span_upto field packets rows fit stand i (omega arith) in
       let pushed = same_span_push field (k + s) (vectors_of (take i packets)) (vectors_of (take i rows)) (vector_of packet) (vector_of row) stands.multiple
-          (IsVector-vectors (take i packets) (All-take (Fits k s) i packets fit)) (IsVector-vectors (take i rows) (All-take (Fits k s) i rows by_rows))
-          (IsVector-vector packet (fit i blank here)) (IsVector-vector row stands.fits)
-          stands.multiple_is_symbol stands.multiple_is_not_zero stands.in_span earlier in
+      (IsVector-vectors (take i packets) (All-take (Fits k s) i packets fit)) (IsVector-vectors (take i rows) (All-take (Fits k s) i rows by_rows))
+      (IsVector-vector packet (fit i blank here)) (IsVector-vector row stands.fits)
+      stands.multiple_is_symbol stands.multiple_is_not_zero stands.in_span earlier in
       let packets_too : vectors_of (take i packets) ++ (vector_of packet ∷ []) ≡ vectors_of (take (suc i) packets) =
-          sym (ap vectors_of (take-suc packets i blank here) ∙ map_push vector_of (take i packets) packet) in
+      sym (ap vectors_of (take-suc packets i blank here) ∙ map_push vector_of (take i packets) packet) in
       let rows_too : vectors_of (take i rows) ++ (vector_of row ∷ []) ≡ vectors_of (take (suc i) rows) =
-          sym (ap vectors_of (take-suc rows i blank there) ∙ map_push vector_of (take i rows) row) in
+      sym (ap vectors_of (take-suc rows i blank there) ∙ map_push vector_of (take i rows) row) in
       subst (λ vs. IsSameSpan (k + s) vs (vectors_of (take (suc i) rows))) packets_too
       (subst (IsSameSpan (k + s) (vectors_of (take i packets) ++ (vector_of packet ∷ []))) rows_too pushed)
 

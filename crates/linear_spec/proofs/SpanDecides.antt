@@ -46,12 +46,14 @@ span_decides field n [] v are by_v = join (is_zero_vector n v)
     join (no other) = no (λ span. other (span-empty n v span))
 span_decides field n (w ∷ vs) v are by_v =
     join (some_below (λ c. InSpan n vs (plus_scaled v c w)) (2 ^ 16)
-        (λ c h. span_decides field n vs (plus_scaled v c w) others (IsVector-plus_scaled field n c v w by_v h)))
+    (λ c h. span_decides field n vs (plus_scaled v c w) others (IsVector-plus_scaled field n c v w by_v h)))
   where
     by_w : IsVector n w
     by_w = All-head (IsVector n) w vs are
+
     others : All (IsVector n) vs
     others = All-tail (IsVector n) w vs are
+
     join : Dec ((c : ℕ) × (c < 2 ^ 16) × InSpan n vs (plus_scaled v c w)) → Dec (InSpan n (w ∷ vs) v)
     join (yes some) =
         yes (subst (InSpan n (w ∷ vs)) (plus_scaled-twice field some.0 v w) (span-head_from field n some.0 w vs (plus_scaled v some.0 w) by_w some.1 some.2))

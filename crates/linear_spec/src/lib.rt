@@ -2,8 +2,8 @@
 #![tactic(auto)]
 
 mod combination;
-pub mod laws;
 mod equations;
+pub mod laws;
 mod list;
 mod packet;
 mod record;

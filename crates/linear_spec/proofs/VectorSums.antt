@@ -32,9 +32,9 @@ module _ (field : IsField) where
       ⊎_elim
       (λ below. get_or-plus_scaled field c i u v below)
       (λ past.
-          get_or_past (plus_scaled u c v) i 0 (omega (arith, length-plus_scaled c u v))
-          ∙ sym (ap (λ x. sum_of x (product_of c (get_or v i 0))) (get_or_past u i 0 past)
-              ∙ ap (λ y. sum_of 0 (product_of c y)) (get_or_past v i 0 (omega arith)) ∙ ap (sum_of 0) (field.product_zero c)))
+      get_or_past (plus_scaled u c v) i 0 (omega (arith, length-plus_scaled c u v))
+      ∙ sym (ap (λ x. sum_of x (product_of c (get_or v i 0))) (get_or_past u i 0 past)
+      ∙ ap (λ y. sum_of 0 (product_of c y)) (get_or_past v i 0 (omega arith)) ∙ ap (sum_of 0) (field.product_zero c)))
       cases
 
   -- 0 + v = v
