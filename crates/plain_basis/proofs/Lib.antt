@@ -1,0 +1,2 @@
+pub mod FirstNonzero
+pub mod PlusScaled

@@ -1,0 +1,2 @@
+pub mod BackSubstitution
+pub mod Basis

@@ -1,0 +1,9 @@
+//! The basis of one thread, the plainest one: it records the packets that tell something new, answers each packet by its
+//! case, and solves.
+#![tactic(auto)]
+
+mod reduce;
+mod solve;
+
+#[cfg(test)]
+mod tests;
