@@ -1,3 +1,4 @@
+pub mod PacketLaws
 pub mod SpanChanges
 pub mod SpanLaws
 pub mod SymbolLemmas

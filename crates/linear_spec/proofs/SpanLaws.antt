@@ -35,6 +35,14 @@ combination-nil n cs =
     let below : i < n = omega (arith, length-combination n cs []) in
     get_or-combination n i cs [] below ∙ dot-nil cs ∙ sym (get_or-replicate n i 0 0 below))
 
+pub combination-none : (n : ℕ) (vs : List (List ℕ)) → combination_of n [] vs ≡ replicate n 0
+combination-none n vs =
+    ext_get_or 0 (combination_of n [] vs) (replicate n 0)
+    (length-combination n [] vs ∙ sym (length-replicate n 0))
+    (λ i within.
+    let below : i < n = omega (arith, length-combination n [] vs) in
+    get_or-combination n i [] vs below ∙ sym (get_or-replicate n i 0 0 below))
+
 -- vectors of any lengths: a place that one lacks counts as 0 there
 pub combination-cons_any : (field : IsField) (n c : ℕ) (cs v : List ℕ) (vs : List (List ℕ))
     → combination_of n (c ∷ cs) (v ∷ vs) ≡ plus_scaled (combination_of n cs vs) c v
@@ -79,20 +87,42 @@ combination_more field n i c cs v vs within same c_is v_is =
 pub IsVector-combination : (field : IsField) (n : ℕ) (cs : List ℕ) (vs : List (List ℕ)) → AreSymbols cs → All (IsVector n) vs
     → IsVector n (combination_of n cs vs)
 IsVector-combination field n cs [] symbols vectors = subst (IsVector n) (sym (combination-nil n cs)) (IsVector-replicate n)
-IsVector-combination field n [] (v ∷ vs) symbols vectors = subst (IsVector n) (sym (no_coefficients n v vs)) (IsVector-replicate n)
-  where
-    no_coefficients : (n : ℕ) (v : List ℕ) (vs : List (List ℕ)) → combination_of n [] (v ∷ vs) ≡ replicate n 0
-    no_coefficients n v vs =
-        ext_get_or 0 (combination_of n [] (v ∷ vs)) (replicate n 0)
-        (length-combination n [] (v ∷ vs) ∙ sym (length-replicate n 0))
-        (λ i within.
-        let below : i < n = omega (arith, length-combination n [] (v ∷ vs)) in
-        get_or-combination n i [] (v ∷ vs) below ∙ sym (get_or-replicate n i 0 0 below))
+IsVector-combination field n [] (v ∷ vs) symbols vectors = subst (IsVector n) (sym (combination-none n (v ∷ vs))) (IsVector-replicate n)
 IsVector-combination field n (c ∷ cs) (v ∷ vs) symbols vectors =
     subst (IsVector n) (sym (combination-cons field n c cs v vs (All-head (IsVector n) v vs vectors)))
     (IsVector-plus_scaled field n c (combination_of n cs vs) v
     (IsVector-combination field n cs vs (All-tail IsSymbol c cs symbols) (All-tail (IsVector n) v vs vectors))
     (All-head IsSymbol c cs symbols))
+
+-- coefficients of 0 combine to the zero vector
+pub combination-zeros : (field : IsField) (n k : ℕ) (vs : List (List ℕ)) → combination_of n (replicate k 0) vs ≡ replicate n 0
+combination-zeros field n zero vs = combination-none n vs
+combination-zeros field n (suc k) [] = combination-nil n (replicate (suc k) 0)
+combination-zeros field n (suc k) (v ∷ vs) =
+    combination-cons_any field n 0 (replicate k 0) v vs ∙ plus_scaled-zero field (combination_of n (replicate k 0) vs) v
+    ∙ combination-zeros field n k vs
+
+-- a combination is linear in its coefficients
+pub combination-plus_scaled : (field : IsField) (n c : ℕ) (cs ds : List ℕ) (vs : List (List ℕ)) → All (IsVector n) vs → IsSymbol c
+    → length cs ≡ length vs → length ds ≡ length vs
+    → combination_of n (plus_scaled cs c ds) vs ≡ plus_scaled (combination_of n cs vs) c (combination_of n ds vs)
+combination-plus_scaled field n c cs ds [] vectors symbol first second =
+    combination-nil n (plus_scaled cs c ds)
+    ∙ sym (ap₂ (λ x y. plus_scaled x c y) (combination-nil n cs) (combination-nil n ds) ∙ plus_scaled-zeros field c n (replicate n 0))
+combination-plus_scaled field n c [] ds (v ∷ vs) vectors symbol first second = absurd (omega arith)
+combination-plus_scaled field n c (x ∷ cs) [] (v ∷ vs) vectors symbol first second = absurd (omega arith)
+combination-plus_scaled field n c (x ∷ cs) (y ∷ ds) (v ∷ vs) vectors symbol first second =
+    let vector = All-head (IsVector n) v vs vectors in
+    let left = combination_of n cs vs in
+    let right = combination_of n ds vs in
+    combination-cons_any field n (sum_of x (product_of c y)) (plus_scaled cs c ds) v vs
+    ∙ ap (λ u. plus_scaled u (sum_of x (product_of c y)) v)
+    (combination-plus_scaled field n c cs ds vs (All-tail (IsVector n) v vs vectors) symbol (omega arith) (omega arith))
+    ∙ sym
+    (ap₂ (λ p q. plus_scaled p c q) (combination-cons_any field n x cs v vs) (combination-cons_any field n y ds v vs)
+    ∙ plus_scaled-plus_scaled field c y (plus_scaled left x v) right v symbol (length-combination n ds vs ∙ sym vector.count)
+    ∙ ap (λ p. plus_scaled p (product_of c y) v) (plus_scaled-commutes field x c left v right)
+    ∙ plus_scaled-sum field x (product_of c y) (plus_scaled left c right) v)
 
 -- ---- spans, head by head
 
@@ -146,28 +176,13 @@ span-skip field n w vs v vector inside =
 
 pub span-plus_scaled : (field : IsField) (n c : ℕ) (vs : List (List ℕ)) (u v : List ℕ) → All (IsVector n) vs → IsSymbol c
     → InSpan n vs u → InSpan n vs v → InSpan n vs (plus_scaled u c v)
-span-plus_scaled field n c [] u v vectors symbol first second =
-    span-same n [] u (plus_scaled u c v)
-    (sym (ap (plus_scaled u c) (span-empty n v second) ∙ plus_scaled-zeros field c n u)) first
-span-plus_scaled field n c (w ∷ vs) u v vectors symbol first second =
-    let vector = All-head (IsVector n) w vs vectors in
-    let rest = All-tail (IsVector n) w vs vectors in
-    let left = span-head field n w vs u vector first in
-    let right = span-head field n w vs v vector second in
-    combined left.0 right.0 left.1 right.1 vector left.2 right.2 (IsVector-span field n vs right.1 rest right.3) left.4 right.4
-    (span-plus_scaled field n c vs left.1 right.1 rest symbol left.3 right.3)
-  where
-    combined : (a b : ℕ) (x y : List ℕ) → IsVector n w → IsSymbol a → IsSymbol b → IsVector n y
-        → u ≡ plus_scaled x a w → v ≡ plus_scaled y b w → InSpan n vs (plus_scaled x c y) → InSpan n (w ∷ vs) (plus_scaled u c v)
-    combined a b x y vector a_symbol b_symbol y_vector u_is v_is sum_in =
-        span-same n (w ∷ vs) (plus_scaled (plus_scaled x c y) (sum_of a (product_of c b)) w) (plus_scaled u c v)
-        (sym
-        (ap₂ (λ p q. plus_scaled p c q) u_is v_is
-        ∙ plus_scaled-plus_scaled field c b (plus_scaled x a w) y w symbol (y_vector.count ∙ sym vector.count)
-        ∙ ap (λ p. plus_scaled p (product_of c b) w) (plus_scaled-commutes field a c x w y)
-        ∙ plus_scaled-sum field a (product_of c b) (plus_scaled x c y) w))
-        (span-head_from field n (sum_of a (product_of c b)) w vs (plus_scaled x c y) vector
-        (field.sum_closed a (product_of c b) a_symbol (field.product_closed c b symbol)) sum_in)
+span-plus_scaled field n c vs u v vectors symbol first second = record {
+  coefficients = plus_scaled first.coefficients c second.coefficients;
+  are_symbols = IsVector-plus_scaled field (length vs) c first.coefficients second.coefficients first.are_symbols symbol;
+  combine =
+      combination-plus_scaled field n c first.coefficients second.coefficients vs vectors symbol first.are_symbols.count second.are_symbols.count
+      ∙ ap₂ (λ x y. plus_scaled x c y) first.combine second.combine;
+}
 
 pub span-scaled : (field : IsField) (n c : ℕ) (vs : List (List ℕ)) (v : List ℕ) → All (IsVector n) vs → IsSymbol c
     → InSpan n vs v → InSpan n vs (scaled c v)

@@ -1,5 +1,5 @@
 -- The span and the rank of a list of vectors of n symbols.
-use Rattle.std.specs.Prelude.{◌≡◌, ◌⊎◌, ℕ, suc, List, [], ◌∷◌, ◌++◌, length}
+use Rattle.std.specs.Prelude.{◌≡◌, ◌⊎◌, ◌↔◌, ℕ, suc, List, [], ◌∷◌, ◌++◌, length}
 use Rattle.linear_spec.specs.Symbols.{IsVector}
 use Rattle.linear_spec.specs.Combination.{combination_of}
 
@@ -8,6 +8,10 @@ pub record InSpan (n : ℕ) (vectors : List (List ℕ)) (vector : List ℕ) : Ty
   pub coefficients : List ℕ
   pub are_symbols : IsVector (length vectors) coefficients
   pub combine : combination_of n coefficients vectors ≡ vector
+
+-- the two lists of vectors span the same
+abbrev pub HaveOneSpan : ℕ → List (List ℕ) → List (List ℕ) → Type 0
+HaveOneSpan n vectors others = (vector : List ℕ) → InSpan n vectors vector ↔ InSpan n others vector
 
 -- r of the vectors do not lie in the span of those before them, where others stand before all
 abbrev pub HasRankAfter : ℕ → List (List ℕ) → List (List ℕ) → ℕ → Type 0

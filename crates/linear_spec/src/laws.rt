@@ -1,6 +1,12 @@
 //! Laws over the definitions alone: each is the contract of a function with an empty body.
+mod span_calls;
+mod span_laws;
+
 ghost use Rattle.std.specs.Prelude.{◌≡◌, ◌*◌, ◌%◌, ℕ, List, length};
 ghost use Rattle.linear_spec.specs.Symbols.{AreBytes, AreSymbols, be_bytes_of, symbols_of};
+
+pub use span_calls::{packet_fits, span_replace, span_sum};
+pub use span_laws::{combinations, spans};
 
 /// Symbols and their bytes determine each other.
 pub fn bytes_spell_symbols()

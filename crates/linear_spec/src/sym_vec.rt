@@ -1,6 +1,6 @@
 ghost use Rattle.std.specs.Prelude.{◌≡◌, ◌++◌, ◌/◌, ◌%◌, length, replicate, IfOk, OnOk, OnErr};
 ghost use Rattle.std.specs.Borrow.{sem};
-ghost use Rattle.linear_spec.specs.Symbols.{AreSymbols, be_bytes_of, symbols_of};
+ghost use Rattle.linear_spec.specs.Symbols.{AreSymbols, IsVector, be_bytes_of, symbols_of};
 
 use crate::List;
 use gf16::Memory;
@@ -74,6 +74,13 @@ impl SymVec {
         SymVec::from_slice(alloc, self.as_slice())
     }
 
+    /// A law: each number of the vector is a symbol, by its type.
+    pub fn is_vector(&self)
+        ensures { IsVector (length self.now) self.now }
+    {
+        are_symbols(self.as_slice());
+    }
+
     /// The number of symbols.
     pub fn len(&self) -> usize
         ensures { result ≡ length self.now }
@@ -95,6 +102,13 @@ impl SymVec {
     {
         self.symbols.as_mut_slice()
     }
+}
+
+/// A law: numbers of 16 bits are symbols.
+fn are_symbols(symbols: &[u16])
+    ensures { AreSymbols symbols.now }
+{
+    let _len = symbols.len();
 }
 
 #[tactic(auto, unfolding(crate::specs::Symbols::symbols_of))]
