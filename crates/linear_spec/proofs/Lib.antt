@@ -1,5 +1,14 @@
+pub mod Decision
+pub mod Echelon
+pub mod Equations
 pub mod PacketLaws
+pub mod RankBounds
+pub mod Ranks
+pub mod RowLaws
+pub mod RowPlaces
+pub mod RowSpans
 pub mod SpanChanges
+pub mod SpanDecides
 pub mod SpanLaws
 pub mod SymbolLemmas
 pub mod VectorLaws

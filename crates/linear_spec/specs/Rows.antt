@@ -1,15 +1,19 @@
 -- Rows in echelon form: a row stands for a packet after those before it. A row has the form of a packet.
 use Rattle.std.specs.Prelude.{◌≡◌, ◌≢◌, ℕ, ◌+◌, ◌<◌, List, [], ◌∷◌, length, take, drop, not, ◌==◌, slice_index, slice_index_or}
 use Rattle.std.specs.List.{All, position_or_len}
-use Rattle.gf16.specs.Field.{IsSymbol}
-use Rattle.gf16.specs.Sums.{plus_scaled}
+use Rattle.gf16.specs.Field.{IsSymbol, product_of}
+use Rattle.gf16.specs.Sums.{plus_scaled, scaled}
 use Rattle.linear_spec.specs.declared.packet.Packet.{Packet}
 use Rattle.linear_spec.specs.Packet.{Fits, vector_of, vectors_of}
 use Rattle.linear_spec.specs.Span.{InSpan}
 
+-- the place of the first symbol that is not 0, or the number of symbols where all are
+abbrev pub first_nonzero : List ℕ → ℕ
+first_nonzero symbols = position_or_len (λ symbol. not (symbol == 0)) symbols
+
 -- the column of a row's first coefficient that is not 0, or the number of coefficients where all are
 abbrev pub pivot_of : Packet → ℕ
-pivot_of row = position_or_len (λ symbol. not (symbol == 0)) row.coeffs
+pivot_of row = first_nonzero row.coeffs
 
 -- a row stands for a packet after earlier packets and their rows: some nonzero multiple of the packet, added to the row,
 -- lies in the span of the earlier packets; the row's first coefficient that is not 0 is 1, at its pivot; and the row is 0
@@ -38,3 +42,12 @@ IsMissing rows column = All (λ row. pivot_of row ≢ column) rows
 abbrev pub remainder_of : List Packet → List ℕ → List ℕ
 remainder_of [] vector = vector
 remainder_of (row ∷ rows) vector = remainder_of rows (plus_scaled vector (slice_index vector (pivot_of row)) (vector_of row))
+
+-- the row that a packet of k coefficients gives after these rows: its remainder, times the inverse of the remainder's
+-- first coefficient that is not 0
+pub record IsRowOf (k : ℕ) (rows : List Packet) (packet row : Packet) : Type 0 where
+  pub inverse : ℕ
+  pub inverse_is_symbol : IsSymbol inverse
+  pub is_inverse : let coeffs = take k (remainder_of rows (vector_of packet)) in product_of (slice_index coeffs (first_nonzero coeffs)) inverse ≡ 1
+  pub coeffs : row.coeffs ≡ scaled inverse (take k (remainder_of rows (vector_of packet)))
+  pub payload : row.payload ≡ scaled inverse (drop k (remainder_of rows (vector_of packet)))
