@@ -15,7 +15,7 @@ use Rattle.linear_spec.specs.Cases.{IsFresh, IsWithin}
 use Rattle.linear_spec.specs.Rows.{StandsFor, StandForAll, IsRowOf, pivot_of, first_nonzero, remainder_of}
 use Rattle.linear_spec.proofs.SpanLaws.{IsVector-take, IsVector-scaled, take-plus_scaled, plus_scaled-zeros, span-plus_scaled, span-scaled}
 use Rattle.linear_spec.proofs.VectorLaws.{get_or-scaled}
-use Rattle.linear_spec.proofs.Equations.{symbol_at, plus_twice, scaled-plus}
+use Rattle.linear_spec.proofs.VectorSums.{symbol_at, plus_twice, scaled-plus}
 use Rattle.linear_spec.proofs.Echelon.{IsClear, IsVector-remainder, remainder-clear, remainder-in_span, echelon_zero}
 use Rattle.linear_spec.proofs.RowSpans.{IsVector-vector, IsVector-vectors, IsVector-coefficients, take-vector, span-coefficients, rows_fit, rows_same_span, rows_same_coefficients}
 use Rattle.linear_spec.proofs.RowPlaces.{echelon_coefficients, echelon_vectors, pivots_below, stand_push}

@@ -11,7 +11,7 @@ use Rattle.linear_spec.specs.Span.{InSpan}
 use Rattle.linear_spec.specs.Packet.{vector_of}
 use Rattle.linear_spec.specs.Rows.{pivot_of, remainder_of}
 use Rattle.linear_spec.proofs.SpanLaws.{IsVector-plus_scaled, plus_scaled-zero, IsVector-span, span-empty, span-zero, span-head, span-head_from}
-use Rattle.linear_spec.proofs.Equations.{get_or-zero, symbol_at, plus_around, plus_self, at_plus_scaled}
+use Rattle.linear_spec.proofs.VectorSums.{get_or-zero, symbol_at, plus_around, plus_self, at_plus_scaled}
 
 -- where all vectors are 0 at a place, so is each of their span
 pub span-clear : (field : IsField) (n place : ℕ) (vs : List (List ℕ)) (v : List ℕ) → All (IsVector n) vs → All (λ w. get_or w place 0 ≡ 0) vs → InSpan n vs v → get_or v place 0 ≡ 0

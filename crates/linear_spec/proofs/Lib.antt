@@ -1,6 +1,5 @@
 pub mod Decision
 pub mod Echelon
-pub mod Equations
 pub mod PacketLaws
 pub mod RankBounds
 pub mod Ranks
@@ -12,3 +11,4 @@ pub mod SpanDecides
 pub mod SpanLaws
 pub mod SymbolLemmas
 pub mod VectorLaws
+pub mod VectorSums

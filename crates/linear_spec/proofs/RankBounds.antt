@@ -18,7 +18,7 @@ use Rattle.linear_spec.specs.Cases.{IsFresh}
 use Rattle.linear_spec.specs.Rows.{StandForAll, IsRowOf, pivot_of, first_nonzero, remainder_of}
 use Rattle.linear_spec.proofs.SpanLaws.{IsVector-nil, IsVector-take, span-zero, span-grows, span-closed}
 use Rattle.linear_spec.proofs.SpanChanges.{span-members}
-use Rattle.linear_spec.proofs.Equations.{symbol_at, plus_self}
+use Rattle.linear_spec.proofs.VectorSums.{symbol_at, plus_self}
 use Rattle.linear_spec.proofs.RowSpans.{same_span_push, IsVector-coefficients}
 use Rattle.linear_spec.proofs.RowPlaces.{cleared_at, row_at, pivots_below, stand_none}
 use Rattle.linear_spec.proofs.Decision.{by_remainder, in_span_from_remainder, row_joins}

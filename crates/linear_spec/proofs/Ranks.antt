@@ -10,7 +10,7 @@ use Rattle.linear_spec.specs.Symbols.{IsVector}
 use Rattle.linear_spec.specs.Span.{InSpan, HasRankAfter, HasRank}
 use Rattle.linear_spec.specs.Packet.{coefficients_of}
 use Rattle.linear_spec.specs.Rows.{StandForAll, pivot_of}
-use Rattle.linear_spec.proofs.Equations.{get_or-zero}
+use Rattle.linear_spec.proofs.VectorSums.{get_or-zero}
 use Rattle.linear_spec.proofs.Echelon.{IsClear, IsEchelon, echelon_zero}
 use Rattle.linear_spec.proofs.RowPlaces.{echelon_coefficients}
 use Rattle.linear_spec.proofs.SpanDecides.{span_decides}

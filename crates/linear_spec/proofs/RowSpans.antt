@@ -13,7 +13,7 @@ use Rattle.linear_spec.specs.Packet.{Fits, vector_of, vectors_of, coefficients_o
 use Rattle.linear_spec.specs.Rows.{StandForAll}
 use Rattle.linear_spec.proofs.SpanLaws.{span-scaled, span-grows, span-closed, span-last_from, span-take}
 use Rattle.linear_spec.proofs.SpanChanges.{span-members}
-use Rattle.linear_spec.proofs.Equations.{scaled-plus_inverse}
+use Rattle.linear_spec.proofs.VectorSums.{scaled-plus_inverse}
 
 pub All-from_map : {X Y : Type 0} (P : Y → Type 0) (f : X → Y) (xs : List X) → All P (map f xs) → All (λ x. P (f x)) xs
 All-from_map P f [] all = All-nil (λ x. P (f x))
