@@ -1,11 +1,11 @@
 -- What the remainder of a packet's vector by rows tells: whether the packet is fresh, whether it is within, and the row
 -- that a fresh packet gives.
-use Rattle.std.proofs.Common.{◌≡◌, ◌≢◌, ◌⊎◌, ◌↔◌, ℕ, zero, suc, ◌+◌, ◌-◌, ◌<◌, ◌≤◌, List, [], ◌∷◌, ◌++◌, map, length, take, drop, get_or, replicate, refl, sym, ap, ◌∙◌, subst, ⊎_elim, lit<, arith, inl, inr}
+use Rattle.std.proofs.Common.{◌≡◌, ◌≢◌, ◌⊎◌, ◌↔◌, ℕ, zero, suc, ◌+◌, ◌-◌, ◌<◌, ◌≤◌, List, [], ◌∷◌, ◌++◌, length, take, drop, get_or, replicate, refl, sym, ap, ◌∙◌, subst, ⊎_elim, lit<, arith}
 use Rattle.std.specs.List.{All}
-use Rattle.std.proofs.lemmas.List.{get_or-take, get_or_past, map-append, take-append-drop, drop-replicate, replicate-append-replicate, length-map, length-take, length-drop}
+use Rattle.std.proofs.lemmas.List.{get_or-take, get_or_past, map-append, take-append-drop, drop-replicate, replicate-append-replicate, length-drop}
 use Rattle.std.proofs.lemmas.List.Elements.{All-head, All-tail, All-drop}
 use Rattle.std.proofs.lemmas.Bool.{ne_eqb}
-use Rattle.gf16.specs.Field.{IsSymbol, IsField, sum_of, product_of}
+use Rattle.gf16.specs.Field.{IsSymbol, IsField, product_of}
 use Rattle.gf16.specs.Sums.{plus_scaled, scaled}
 use Rattle.linear_spec.specs.declared.packet.Packet.{Packet}
 use Rattle.linear_spec.specs.Symbols.{AreSymbols, IsVector}
@@ -17,7 +17,7 @@ use Rattle.linear_spec.proofs.SpanLaws.{IsVector-take, IsVector-scaled, take-plu
 use Rattle.linear_spec.proofs.VectorLaws.{get_or-scaled}
 use Rattle.linear_spec.proofs.VectorSums.{symbol_at, plus_twice, scaled-plus}
 use Rattle.linear_spec.proofs.Echelon.{IsClear, IsVector-remainder, remainder-clear, remainder-in_span, echelon_zero}
-use Rattle.linear_spec.proofs.RowSpans.{IsSameSpan, IsVector-vector, IsVector-vectors, IsVector-coefficients, take-vector, span-coefficients, rows_fit, rows_same_span, rows_same_coefficients}
+use Rattle.linear_spec.proofs.RowSpans.{IsVector-vector, IsVector-vectors, IsVector-coefficients, take-vector, span-coefficients, rows_fit, rows_same_span, rows_same_coefficients}
 use Rattle.linear_spec.proofs.RowPlaces.{echelon_coefficients, echelon_vectors, pivots_below, stand_push}
 
 module _ (field : IsField) (k s : ℕ) (packets rows : List Packet) (packet : Packet) (fit : All (Fits k s) packets) (fits : Fits k s packet) (stand : StandForAll k s packets rows) where
@@ -58,7 +58,7 @@ module _ (field : IsField) (k s : ℕ) (packets rows : List Packet) (packet : Pa
 
   pub in_span_from_remainder : take k remainder ≡ replicate k 0 → InSpan k (coefficients_of packets) packet.coeffs
   in_span_from_remainder none =
-      (rows_same_coefficients k s field packets rows fit stand).back packet.coeffs
+      (rows_same_coefficients k s field packets rows fit stand packet.coeffs).1
       (subst (InSpan k (coefficients_of rows))
       (ap (plus_scaled packet.coeffs 1) none ∙ plus_scaled-zeros field 1 k packet.coeffs)
       coefficients_sum)
@@ -66,7 +66,7 @@ module _ (field : IsField) (k s : ℕ) (packets rows : List Packet) (packet : Pa
   pub remainder_from_in_span : InSpan k (coefficients_of packets) packet.coeffs → take k remainder ≡ replicate k 0
   remainder_from_in_span span =
       let by_rows = IsVector-coefficients k s rows (rows_fit k s packets rows stand) in
-      let mine = (rows_same_coefficients k s field packets rows fit stand).forth packet.coeffs span in
+      let mine = (rows_same_coefficients k s field packets rows fit stand packet.coeffs).0 span in
       echelon_zero field k (λ row. row.coeffs) rows (take k remainder) (echelon_coefficients k s packets rows stand)
       (subst (InSpan k (coefficients_of rows)) (plus_twice field k packet.coeffs (take k remainder) fits.coeffs by_coefficients)
       (span-plus_scaled field k 1 (coefficients_of rows) packet.coeffs (plus_scaled packet.coeffs 1 (take k remainder)) by_rows one mine coefficients_sum))
@@ -74,7 +74,7 @@ module _ (field : IsField) (k s : ℕ) (packets rows : List Packet) (packet : Pa
 
   pub within_from_remainder : remainder ≡ replicate (k + s) 0 → IsWithin k s packets packet
   within_from_remainder none =
-      (rows_same_span k s field packets rows fit stand).back vector
+      (rows_same_span k s field packets rows fit stand vector).1
       (subst (InSpan (k + s) (vectors_of rows))
       (ap (plus_scaled vector 1) none ∙ plus_scaled-zeros field 1 (k + s) vector)
       sum_in_span)
@@ -82,7 +82,7 @@ module _ (field : IsField) (k s : ℕ) (packets rows : List Packet) (packet : Pa
   pub remainder_from_within : IsWithin k s packets packet → remainder ≡ replicate (k + s) 0
   remainder_from_within span =
       let by_rows = IsVector-vectors k s rows (rows_fit k s packets rows stand) in
-      let mine = (rows_same_span k s field packets rows fit stand).forth vector span in
+      let mine = (rows_same_span k s field packets rows fit stand vector).0 span in
       echelon_zero field (k + s) vector_of rows remainder (echelon_vectors k s packets rows stand)
       (subst (InSpan (k + s) (vectors_of rows)) (plus_twice field (k + s) vector remainder by_vector by_remainder)
       (span-plus_scaled field (k + s) 1 (vectors_of rows) vector (plus_scaled vector 1 remainder) by_rows one mine sum_in_span))
@@ -181,7 +181,7 @@ module _ (field : IsField) (k s : ℕ) (packets rows : List Packet) (packet row 
         multiple = c;
         multiple_is_symbol = by_c;
         multiple_is_not_zero = inverse_some;
-        in_span = (rows_same_span k s field packets rows fit stand).back (plus_scaled (vector_of row) c vector)
+        in_span = (rows_same_span k s field packets rows fit stand (plus_scaled (vector_of row) c vector)).1
             (subst (InSpan (k + s) (vectors_of rows))
             (scaled-plus field (k + s) c result vector by_c by_result by_vector ∙ ap (λ v. plus_scaled v c vector) (sym same_vector))
             (span-scaled field (k + s) c (vectors_of rows) (plus_scaled vector 1 result) by_rows by_c sum));

@@ -1,9 +1,9 @@
 -- Rows in echelon form, head first: no vector of their span but zero is 0 at all pivots, and a vector reduced by them
 -- is 0 there.
-use Rattle.std.proofs.Common.{◌≡◌, ℕ, List, [], ◌∷◌, map, get_or, replicate, refl, sym, ap, ◌∙◌, subst, lit<}
+use Rattle.std.proofs.Common.{◌≡◌, ℕ, List, [], ◌∷◌, map, get_or, replicate, refl, sym, ap, ◌∙◌, subst}
 use Rattle.std.specs.List.{All}
 use Rattle.std.proofs.lemmas.List.Elements.{All-nil, All-cons, All-head, All-tail, All-map}
-use Rattle.gf16.specs.Field.{IsSymbol, IsField, sum_of, product_of}
+use Rattle.gf16.specs.Field.{IsField, sum_of, product_of}
 use Rattle.gf16.specs.Sums.{plus_scaled}
 use Rattle.linear_spec.specs.declared.packet.Packet.{Packet}
 use Rattle.linear_spec.specs.Symbols.{IsVector}

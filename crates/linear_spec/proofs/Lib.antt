@@ -3,6 +3,7 @@ pub mod Echelon
 pub mod PacketLaws
 pub mod RankBounds
 pub mod Ranks
+pub mod RowLaws
 pub mod RowPlaces
 pub mod RowSpans
 pub mod Solutions

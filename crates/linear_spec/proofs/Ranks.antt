@@ -1,28 +1,18 @@
 -- The rank of a list of vectors: there is exactly one, it is at most the number of vectors and at most the number of their
 -- symbols, and rows that stand for packets have as large a rank as can be.
-use Rattle.std.proofs.Common.{◌≡◌, ◌≢◌, ◌⊎◌, eqb, true, ℕ, zero, suc, ◌+◌, ◌^◌, ◌<◌, ◌≤◌, List, [], ◌∷◌, ◌++◌, length, map, take, drop, get_or, replicate, refl, sym, ap, ◌∙◌, subst, ⊎_elim, inl, inr, lit<, arith}
+use Rattle.std.proofs.Common.{◌≡◌, ℕ, zero, suc, ◌<◌, ◌≤◌, List, [], ◌∷◌, ◌++◌, length, take, get_or, replicate, refl, sym, ap, ◌∙◌, subst, inl, inr, arith}
 use Rattle.std.specs.List.{All}
-use Rattle.std.proofs.lemmas.Bool.{eqb-true}
-use Rattle.std.proofs.lemmas.Bool.Decides.{Decides-eqb}
-use Rattle.std.proofs.lemmas.List.{append-nil, append_assoc, length-map, length_push, get_or-map, get_or_past, map_push, take-map, get_or_default, ext_get_or, length-replicate}
-use Rattle.std.proofs.lemmas.List.Elements.{All-nil, All-cons, All-head, All-tail, All-push, All-take, All-weaker, All-append, All-map}
-use Rattle.std.proofs.lemmas.List.Folds.{Any-from_list_any}
-use Rattle.std.proofs.lemmas.Map.Made.{IsDistinct-from_AllPairs}
-use Rattle.std.proofs.lemmas.Map.Steps.{length-le_from_distinct_below}
-use Rattle.gf16.specs.Field.{IsSymbol, IsField}
-use Rattle.gf16.specs.Sums.{plus_scaled, scaled}
+use Rattle.std.proofs.lemmas.List.{append-nil, append_assoc, length-map, get_or-map, take-map}
+use Rattle.std.proofs.lemmas.List.Elements.{All-nil, All-head, All-tail, All-push, All-take}
+use Rattle.gf16.specs.Field.{IsField}
 use Rattle.linear_spec.specs.declared.packet.Packet.{Packet}
 use Rattle.linear_spec.specs.Symbols.{IsVector}
 use Rattle.linear_spec.specs.Span.{InSpan, HasRankAfter, HasRank}
-use Rattle.linear_spec.specs.Packet.{Fits, vector_of, coefficients_of}
-use Rattle.linear_spec.specs.Rows.{StandForAll, IsRowOf, pivot_of, first_nonzero, remainder_of}
-use Rattle.linear_spec.proofs.SpanLaws.{IsVector-nil, IsVector-take, span-zero, span-member, span-grows, span-closed}
-use Rattle.linear_spec.proofs.SpanChanges.{span-members}
-use Rattle.linear_spec.proofs.VectorSums.{symbol_at, get_or-zero}
+use Rattle.linear_spec.specs.Packet.{coefficients_of}
+use Rattle.linear_spec.specs.Rows.{StandForAll, pivot_of}
+use Rattle.linear_spec.proofs.VectorSums.{get_or-zero}
 use Rattle.linear_spec.proofs.Echelon.{IsClear, IsEchelon, echelon_zero}
-use Rattle.linear_spec.proofs.RowSpans.{IsSameSpan, IsVector-coefficients, rows_fit}
-use Rattle.linear_spec.proofs.RowPlaces.{echelon_coefficients, pivots_below, stand_none}
-use Rattle.linear_spec.proofs.Decision.{by_remainder, in_span_from_remainder, row_joins}
+use Rattle.linear_spec.proofs.RowPlaces.{echelon_coefficients}
 use Rattle.linear_spec.proofs.SpanDecides.{span_decides}
 
 rank_unique_after : (n : ℕ) (before vs : List (List ℕ)) (r q : ℕ) → HasRankAfter n before vs r → HasRankAfter n before vs q → r ≡ q
@@ -88,7 +78,7 @@ echelon-take n view (suc i) (row ∷ rows) echelon = (
 )
 
 module _ (field : IsField) (k s : ℕ) (packets rows : List Packet) (stand : StandForAll k s packets rows) where
-  row_fresh : (i : ℕ) (d : Packet) → i < length rows → ¬ InSpan k (coefficients_of (take i rows)) (get_or rows i d).coeffs
+  pub row_fresh : (i : ℕ) (d : Packet) → i < length rows → ¬ InSpan k (coefficients_of (take i rows)) (get_or rows i d).coeffs
   row_fresh i d below span =
       let count = stand.count in
       let row = get_or rows i d in

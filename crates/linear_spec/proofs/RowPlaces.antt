@@ -1,12 +1,12 @@
 -- Rows that stand for packets are in echelon form, as whole vectors and as lists of coefficients; and one row more.
-use Rattle.std.proofs.Common.{◌≡◌, ◌≢◌, ◌⊎◌, ℕ, zero, suc, ◌+◌, ◌<◌, ◌≤◌, List, [], ◌∷◌, ◌++◌, map, length, take, get_or, refl, sym, ap, ◌∙◌, subst, ⊎_elim, arith, inl, inr}
+use Rattle.std.proofs.Common.{◌≡◌, ◌⊎◌, ℕ, suc, ◌+◌, ◌<◌, List, [], ◌∷◌, ◌++◌, length, take, get_or, refl, sym, ◌∙◌, subst, ⊎_elim, arith}
 use Rattle.std.specs.List.{All}
-use Rattle.std.proofs.lemmas.List.{get_or-take, get_or_append_left, get_or_push, length_push, take-append-le, take_at, length-take-le, length-take}
+use Rattle.std.proofs.lemmas.List.{get_or-take, get_or_append_left, get_or_push, length_push, take-append-le, take_at, length-take}
 use Rattle.linear_spec.specs.declared.packet.Packet.{Packet}
 use Rattle.linear_spec.specs.Symbols.{IsVector}
 use Rattle.linear_spec.specs.Packet.{Fits, vector_of}
 use Rattle.linear_spec.specs.Rows.{StandsFor, StandForAll, pivot_of}
-use Rattle.linear_spec.proofs.Echelon.{IsClear, IsEchelonRow, IsEchelon}
+use Rattle.linear_spec.proofs.Echelon.{IsClear, IsEchelon}
 use Rattle.linear_spec.proofs.RowSpans.{IsVector-vector}
 
 -- echelon form by places

@@ -1,24 +1,19 @@
 -- Rows that stand for packets span what the packets span, as whole vectors and as lists of coefficients.
-use Rattle.std.proofs.Common.{◌≡◌, ◌≢◌, ℕ, zero, suc, ◌+◌, ◌<◌, ◌≤◌, List, [], ◌∷◌, ◌++◌, map, length, take, drop, get_or, refl, sym, ap, ◌∙◌, subst, arith}
+use Rattle.std.proofs.Common.{◌≡◌, ◌≢◌, ℕ, zero, suc, ◌+◌, ◌<◌, ◌≤◌, List, [], ◌∷◌, ◌++◌, map, length, take, get_or, refl, sym, ap, ◌∙◌, subst, arith}
 use Rattle.std.specs.List.{All}
-use Rattle.std.proofs.Math.Seq.{take-suc, drop-cons}
-use Rattle.std.proofs.lemmas.List.{get_or-map, take_at, take_all, take-append-drop, length-append, map_push, length-take-le}
-use Rattle.std.proofs.lemmas.List.Elements.{All-nil, All-cons, All-head, All-tail, All-map, All-append, All-push, All-take, All-weaker, All-from_get_or}
-use Rattle.gf16.specs.Field.{IsSymbol, IsField, sum_of, product_of}
-use Rattle.gf16.specs.Sums.{plus_scaled, scaled}
+use Rattle.std.proofs.Math.Seq.{take-suc}
+use Rattle.std.proofs.lemmas.List.{take_at, take_all, length-append, map_push}
+use Rattle.std.proofs.lemmas.List.Elements.{All-nil, All-cons, All-head, All-tail, All-map, All-append, All-push, All-take, All-weaker}
+use Rattle.gf16.specs.Field.{IsSymbol, IsField}
+use Rattle.gf16.specs.Sums.{plus_scaled}
 use Rattle.linear_spec.specs.declared.packet.Packet.{Packet}
 use Rattle.linear_spec.specs.Symbols.{IsVector}
-use Rattle.linear_spec.specs.Span.{InSpan}
+use Rattle.linear_spec.specs.Span.{InSpan, HaveOneSpan}
 use Rattle.linear_spec.specs.Packet.{Fits, vector_of, vectors_of, coefficients_of}
-use Rattle.linear_spec.specs.Rows.{StandsFor, StandForAll}
-use Rattle.linear_spec.proofs.SpanLaws.{span-scaled, span-member, span-grows, span-closed, span-last_from, span-take}
+use Rattle.linear_spec.specs.Rows.{StandForAll}
+use Rattle.linear_spec.proofs.SpanLaws.{span-scaled, span-grows, span-closed, span-last_from, span-take}
 use Rattle.linear_spec.proofs.SpanChanges.{span-members}
 use Rattle.linear_spec.proofs.VectorSums.{scaled-plus_inverse}
-
--- two lists of vectors with the same span
-pub record IsSameSpan (n : ℕ) (vs ws : List (List ℕ)) : Type 0 where
-  pub forth : (v : List ℕ) → InSpan n vs v → InSpan n ws v
-  pub back : (v : List ℕ) → InSpan n ws v → InSpan n vs v
 
 pub All-from_map : {X Y : Type 0} (P : Y → Type 0) (f : X → Y) (xs : List X) → All P (map f xs) → All (λ x. P (f x)) xs
 All-from_map P f [] all = All-nil (λ x. P (f x))
@@ -27,7 +22,7 @@ All-from_map P f (x ∷ xs) all =
 
 module _ (field : IsField) (n : ℕ) where
   pub same_span_push : (vs ws : List (List ℕ)) (v w : List ℕ) (m : ℕ) → All (IsVector n) vs → All (IsVector n) ws → IsVector n v → IsVector n w
-      → IsSymbol m → m ≢ 0 → InSpan n vs (plus_scaled w m v) → IsSameSpan n vs ws → IsSameSpan n (vs ++ v ∷ []) (ws ++ w ∷ [])
+      → IsSymbol m → m ≢ 0 → InSpan n vs (plus_scaled w m v) → HaveOneSpan n vs ws → HaveOneSpan n (vs ++ v ∷ []) (ws ++ w ∷ [])
   same_span_push vs ws v w m by_vs by_ws by_v by_w by_m some sum same =
       let by_more = All-push (IsVector n) vs v by_vs by_v in
       let by_others = All-push (IsVector n) ws w by_ws by_w in
@@ -35,18 +30,18 @@ module _ (field : IsField) (n : ℕ) where
       let v_too : InSpan n (ws ++ w ∷ []) v =
       span-last_from field n inverse.0 ws w v by_ws by_w by_v inverse.1
       (subst (InSpan n ws) (scaled-plus_inverse field n inverse.0 m w v inverse.1 by_m inverse.2 by_w by_v)
-      (span-scaled field n inverse.0 ws (plus_scaled w m v) by_ws inverse.1 (same.forth (plus_scaled w m v) sum))) in
+      (span-scaled field n inverse.0 ws (plus_scaled w m v) by_ws inverse.1 ((same (plus_scaled w m v)).0 sum))) in
       let w_too : InSpan n (vs ++ v ∷ []) w = span-last_from field n m vs v w by_vs by_v by_w by_m sum in
-      record {
-        forth = λ u. span-closed field n (vs ++ v ∷ []) (ws ++ w ∷ []) u by_more by_others
+      λ u. (
+        span-closed field n (vs ++ v ∷ []) (ws ++ w ∷ []) u by_more by_others
             (All-push (InSpan n (ws ++ w ∷ [])) vs v
-            (All-weaker (InSpan n vs) (InSpan n (ws ++ w ∷ [])) (λ x h. span-grows field n ws (w ∷ []) x by_others (same.forth x h)) vs (span-members field n vs by_vs))
-            v_too);
-        back = λ u. span-closed field n (ws ++ w ∷ []) (vs ++ v ∷ []) u by_others by_more
+            (All-weaker (InSpan n vs) (InSpan n (ws ++ w ∷ [])) (λ x h. span-grows field n ws (w ∷ []) x by_others ((same x).0 h)) vs (span-members field n vs by_vs))
+            v_too),
+        span-closed field n (ws ++ w ∷ []) (vs ++ v ∷ []) u by_others by_more
             (All-push (InSpan n (vs ++ v ∷ [])) ws w
-            (All-weaker (InSpan n ws) (InSpan n (vs ++ v ∷ [])) (λ x h. span-grows field n vs (v ∷ []) x by_more (same.back x h)) ws (span-members field n ws by_ws))
-            w_too);
-      }
+            (All-weaker (InSpan n ws) (InSpan n (vs ++ v ∷ [])) (λ x h. span-grows field n vs (v ∷ []) x by_more ((same x).1 h)) ws (span-members field n ws by_ws))
+            w_too),
+      )
 
 module _ (k s : ℕ) where
   pub IsVector-vector : (packet : Packet) → Fits k s packet → IsVector (k + s) (vector_of packet)
@@ -94,11 +89,11 @@ module _ (k s : ℕ) where
       span
 
   pub coefficients_same : (field : IsField) (packets rows : List Packet) → All (Fits k s) packets → All (Fits k s) rows
-      → IsSameSpan (k + s) (vectors_of packets) (vectors_of rows) → IsSameSpan k (coefficients_of packets) (coefficients_of rows)
-  coefficients_same field packets rows fit rows_fit same = record {
-    forth = coefficients_too field packets rows fit rows_fit same.forth;
-    back = coefficients_too field rows packets rows_fit fit same.back;
-  }
+      → HaveOneSpan (k + s) (vectors_of packets) (vectors_of rows) → HaveOneSpan k (coefficients_of packets) (coefficients_of rows)
+  coefficients_same field packets rows fit rows_fit same = λ c. (
+    coefficients_too field packets rows fit rows_fit (λ v. (same v).0) c,
+    coefficients_too field rows packets rows_fit fit (λ v. (same v).1) c,
+  )
 
   pub rows_fit : (packets rows : List Packet) → StandForAll k s packets rows → All (Fits k s) rows
   rows_fit packets rows stand i d below =
@@ -106,8 +101,8 @@ module _ (k s : ℕ) where
       (stand.each i d d (omega arith)).fits
 
   rows_span_upto : (field : IsField) (packets rows : List Packet) → All (Fits k s) packets → StandForAll k s packets rows
-      → (i : ℕ) → i ≤ length packets → IsSameSpan (k + s) (vectors_of (take i packets)) (vectors_of (take i rows))
-  rows_span_upto field packets rows fit stand zero below = record { forth = λ v h. h; back = λ v h. h }
+      → (i : ℕ) → i ≤ length packets → HaveOneSpan (k + s) (vectors_of (take i packets)) (vectors_of (take i rows))
+  rows_span_upto field packets rows fit stand zero below = λ v. (λ h. h, λ h. h)
   rows_span_upto field packets rows fit stand (suc i) below =
       let blank : Packet = record { generation = 0; coeffs = []; payload = [] } in
       let count = stand.count in
@@ -126,16 +121,16 @@ module _ (k s : ℕ) where
       sym (ap vectors_of (take-suc packets i blank here) ∙ map_push vector_of (take i packets) packet) in
       let rows_too : vectors_of (take i rows) ++ (vector_of row ∷ []) ≡ vectors_of (take (suc i) rows) =
       sym (ap vectors_of (take-suc rows i blank there) ∙ map_push vector_of (take i rows) row) in
-      subst (λ vs. IsSameSpan (k + s) vs (vectors_of (take (suc i) rows))) packets_too
-      (subst (IsSameSpan (k + s) (vectors_of (take i packets) ++ (vector_of packet ∷ []))) rows_too pushed)
+      subst (λ vs. HaveOneSpan (k + s) vs (vectors_of (take (suc i) rows))) packets_too
+      (subst (HaveOneSpan (k + s) (vectors_of (take i packets) ++ (vector_of packet ∷ []))) rows_too pushed)
 
-  pub rows_same_span : (field : IsField) (packets rows : List Packet) → All (Fits k s) packets → StandForAll k s packets rows → IsSameSpan (k + s) (vectors_of packets) (vectors_of rows)
+  pub rows_same_span : (field : IsField) (packets rows : List Packet) → All (Fits k s) packets → StandForAll k s packets rows → HaveOneSpan (k + s) (vectors_of packets) (vectors_of rows)
   rows_same_span field packets rows fit stand =
       let count = stand.count in
       let all = rows_span_upto field packets rows fit stand (length packets) (omega arith) in
-      subst (λ ps. IsSameSpan (k + s) (vectors_of ps) (vectors_of rows)) (take_all (length packets) packets (omega arith))
-      (subst (λ rs. IsSameSpan (k + s) (vectors_of (take (length packets) packets)) (vectors_of rs)) (take_all (length packets) rows (omega arith)) all)
+      subst (λ ps. HaveOneSpan (k + s) (vectors_of ps) (vectors_of rows)) (take_all (length packets) packets (omega arith))
+      (subst (λ rs. HaveOneSpan (k + s) (vectors_of (take (length packets) packets)) (vectors_of rs)) (take_all (length packets) rows (omega arith)) all)
 
-  pub rows_same_coefficients : (field : IsField) (packets rows : List Packet) → All (Fits k s) packets → StandForAll k s packets rows → IsSameSpan k (coefficients_of packets) (coefficients_of rows)
+  pub rows_same_coefficients : (field : IsField) (packets rows : List Packet) → All (Fits k s) packets → StandForAll k s packets rows → HaveOneSpan k (coefficients_of packets) (coefficients_of rows)
   rows_same_coefficients field packets rows fit stand =
       coefficients_same field packets rows fit (rows_fit packets rows stand) (rows_same_span field packets rows fit stand)

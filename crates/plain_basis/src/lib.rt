@@ -2,8 +2,11 @@
 //! case, and solves.
 #![tactic(auto)]
 
+mod basis;
 mod reduce;
 mod solve;
+
+pub use basis::PlainBasis;
 
 #[cfg(test)]
 mod tests;
