@@ -1,2 +1,3 @@
+pub mod BackSubstitution
 pub mod FirstNonzero
 pub mod PlusScaled
