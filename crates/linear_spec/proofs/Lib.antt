@@ -6,6 +6,7 @@ pub mod Ranks
 pub mod RowLaws
 pub mod RowPlaces
 pub mod RowSpans
+pub mod Solutions
 pub mod SpanChanges
 pub mod SpanDecides
 pub mod SpanLaws

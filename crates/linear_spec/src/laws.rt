@@ -1,6 +1,7 @@
 //! Laws over the definitions alone: each is the contract of a function with an empty body.
 mod row_calls;
 mod row_laws;
+mod solving_laws;
 mod span_calls;
 mod span_laws;
 
@@ -9,6 +10,7 @@ ghost use Rattle.linear_spec.specs.Symbols.{AreBytes, AreSymbols, be_bytes_of, s
 
 pub use row_calls::{rows_rank, rows_span};
 pub use row_laws::{decision, one_case, ranks, reduction, rows};
+pub use solving_laws::solving;
 pub use span_calls::{packet_fits, span_replace, span_sum};
 pub use span_laws::{combinations, spans};
 
