@@ -63,7 +63,8 @@ module _ (field : IsField) (k s : ℕ) (packets : List Packet) (blocks : List (L
 module _ (field : IsField) (k s : ℕ) (packets rows : List Packet) (fit : All (Fits k s) packets) (stand : StandForAll k s packets rows) where
   pub solve_from_rows : (blocks : List (List ℕ)) → Solve k s rows blocks → Solve k s packets blocks
   solve_from_rows blocks solve =
-      solve_spanned field k s rows blocks (rows_fit k s packets rows stand) solve packets fit (rows_same_span k s field packets rows fit stand).forth
+      solve_spanned field k s rows blocks (rows_fit k s packets rows stand) solve packets fit
+      (λ v. (rows_same_span k s field packets rows fit stand v).0)
 
   pub span_full : (v : List ℕ) → length packets ≡ k → IsVector k v → InSpan k (coefficients_of packets) v
   span_full v full by_v = pick (span_decides field k (coefficients_of packets) v (IsVector-coefficients k s packets fit) by_v)

@@ -1,2 +1,6 @@
 pub mod FirstNonzero
+pub mod Offers
 pub mod PlusScaled
+pub mod RecordRank
+pub mod Reduction
+pub mod Scaled

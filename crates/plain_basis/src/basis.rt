@@ -55,6 +55,7 @@ impl PlainBasis {
     {
         linear_spec::laws::rows();
         linear_spec::laws::decision();
+        gf16::laws::field();
         self.packets.reserve(1)?;
         self.rows.reserve(1)?;
         let mut row = packet.copy(self.alloc)?;
