@@ -68,8 +68,13 @@ impl PlainBasis {
                 self.rows.put(row);
                 Ok(Reply::Innovative { at: front })
             }
-            None if is_zero(row.payload.as_slice()) => Ok(Reply::NotInnovative { front }),
-            None => Ok(Reply::Conflicting { front }),
+            None => {
+                if is_zero(row.payload.as_slice()) {
+                    Ok(Reply::NotInnovative { front })
+                } else {
+                    Ok(Reply::Conflicting { front })
+                }
+            }
         }
     }
 
