@@ -1,3 +1,4 @@
+pub mod BackSubstitution
 pub mod FirstNonzero
 pub mod Offers
 pub mod PlusScaled

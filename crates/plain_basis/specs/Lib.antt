@@ -1,2 +1,3 @@
 pub mod BackSubstitution
 pub mod Basis
+pub mod Solutions

@@ -1,11 +1,14 @@
 ghost use Rattle.std.specs.Prelude.{◌≡◌, ◌++◌, [], length, IfOk, OnErr};
 ghost use Rattle.linear_spec.specs.Packet.{Fits, coefficients_of};
 ghost use Rattle.linear_spec.specs.SequentialBasis.{IsCaseReply, recorded};
+ghost use Rattle.linear_spec.specs.Solving.{Solve};
 ghost use Rattle.linear_spec.specs.Span.{HasRank};
+ghost use Rattle.plain_basis.specs.Solutions.{IsOnlySolution};
 
 use crate::reduce::{inverse_of_first, is_zero, reduce, scale};
+use crate::solve::solve_rows;
 use gf16::Memory;
-use linear_spec::{List, Packet, Reply};
+use linear_spec::{List, Packet, Reply, SymVec};
 use std::alloc::Global;
 use std::marker::Model;
 
@@ -92,5 +95,15 @@ impl PlainBasis {
         ensures { result.now.items ≡ self.now.packets }
     {
         &self.packets
+    }
+
+    /// The blocks that solve the records, K of S symbols: there are no others. They take memory of the basis's allocator.
+    pub fn solve(&self) -> Result<List<SymVec>, Memory>
+        requires full { length self.now.packets ≡ self.now.k }
+        ensures solves { IfOk result (λ blocks. Solve self.now.k self.now.s self.now.packets blocks.items) }
+        ensures only { IfOk result (λ blocks. IsOnlySolution self.now.k self.now.s self.now.packets blocks.items) }
+    {
+        linear_spec::laws::solving();
+        solve_rows(self.alloc, self.k, self.s, &self.rows)
     }
 }
