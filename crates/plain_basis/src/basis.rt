@@ -58,6 +58,7 @@ impl PlainBasis {
     {
         linear_spec::laws::rows();
         linear_spec::laws::decision();
+        gf16::laws::field();
         self.packets.reserve(1)?;
         self.rows.reserve(1)?;
         let mut row = packet.copy(self.alloc)?;
@@ -70,8 +71,13 @@ impl PlainBasis {
                 self.rows.put(row);
                 Ok(Reply::Innovative { at: front })
             }
-            None if is_zero(row.payload.as_slice()) => Ok(Reply::NotInnovative { front }),
-            None => Ok(Reply::Conflicting { front }),
+            None => {
+                if is_zero(row.payload.as_slice()) {
+                    Ok(Reply::NotInnovative { front })
+                } else {
+                    Ok(Reply::Conflicting { front })
+                }
+            }
         }
     }
 

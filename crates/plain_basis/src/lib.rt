@@ -9,4 +9,6 @@ mod solve;
 pub use basis::PlainBasis;
 
 #[cfg(test)]
+mod solving_tests;
+#[cfg(test)]
 mod tests;

@@ -17,7 +17,8 @@ pub fn reduce(vector: &mut Packet, rows: &List<Packet>)
     ensures coeffs { length vector.new.coeffs ≡ length vector.old.coeffs }
     ensures payload { length vector.new.payload ≡ length vector.old.payload }
 {
-    for row in rows.as_slice() {
+    let rows = rows.as_slice();
+    for row in rows {
         reduce_by(vector, row);
     }
 }
@@ -33,9 +34,19 @@ fn reduce_by(vector: &mut Packet, row: &Packet)
 {
     if let Some(pivot) = place_of_first(row.coeffs.as_slice()) {
         let factor = Gf(vector.coeffs.as_slice()[pivot]);
-        add_scaled(vector.coeffs.as_mut_slice(), factor, row.coeffs.as_slice());
-        add_scaled(vector.payload.as_mut_slice(), factor, row.payload.as_slice());
+        add_row(vector, factor, row);
     }
+}
+
+/// Adds to a vector a row of its lengths times a factor.
+fn add_row(vector: &mut Packet, factor: Gf, row: &Packet)
+    requires coeffs { length row.now.coeffs ≡ length vector.old.coeffs }
+    requires payload { length row.now.payload ≡ length vector.old.payload }
+    ensures coeffs { vector.new.coeffs ≡ plus_scaled vector.old.coeffs factor.0 row.now.coeffs }
+    ensures payload { vector.new.payload ≡ plus_scaled vector.old.payload factor.0 row.now.payload }
+{
+    add_scaled(vector.coeffs.as_mut_slice(), factor, row.coeffs.as_slice());
+    add_scaled(vector.payload.as_mut_slice(), factor, row.payload.as_slice());
 }
 
 /// Multiplies a vector by a factor.
