@@ -1,12 +1,12 @@
 //! The laws of rows, cases and rank, for all lists of packets and vectors.
-ghost use Rattle.std.specs.Prelude.{◌≡◌, ◌≢◌, ◌↔◌, ◌+◌, ◌<◌, ◌≤◌, ℕ, List, [], ◌∷◌, ◌++◌, length, replicate, take, drop, slice_index, slice_index_or};
+ghost use Rattle.std.specs.Prelude.{◌≡◌, ◌≢◌, ◌↔◌, ◌+◌, ◌<◌, ◌≤◌, ℕ, suc, List, [], ◌∷◌, ◌++◌, length, replicate, take, drop, slice_index, slice_index_or};
 ghost use Rattle.std.specs.List.{All};
 ghost use Rattle.gf16.specs.Sums.{plus_scaled};
 ghost use Rattle.linear_spec.specs.declared.packet.Packet.{Packet};
 ghost use Rattle.linear_spec.specs.Symbols.{IsVector};
 ghost use Rattle.linear_spec.specs.Packet.{Fits, vector_of, vectors_of, coefficients_of};
 ghost use Rattle.linear_spec.specs.Span.{InSpan, HaveOneSpan, HasRank};
-ghost use Rattle.linear_spec.specs.Cases.{IsFresh, IsWithin, IsOneCase};
+ghost use Rattle.linear_spec.specs.Cases.{IsFresh, IsWithin, IsConflicting, IsOneCase};
 ghost use Rattle.linear_spec.specs.Rows.{StandsFor, StandForAll, IsRowOf, pivot_of, remainder_of};
 
 /// Rows that stand for packets span what the packets span; each packet is fresh after those before it.
@@ -21,6 +21,8 @@ pub fn rows()
     ensures fresh { (k s at : ℕ) (packets rows : List Packet) (packet : Packet) → All (Fits k s) packets → StandForAll k s packets rows
         → at < length packets → IsFresh k (take at packets) (slice_index_or packets at packet) }
     ensures rank { (k s : ℕ) (packets rows : List Packet) → StandForAll k s packets rows → HasRank k (coefficients_of rows) (length rows) }
+    ensures packets_rank { (k s : ℕ) (packets rows : List Packet) → All (Fits k s) packets → StandForAll k s packets rows
+        → HasRank k (coefficients_of packets) (length packets) }
     ensures at_most { (k s : ℕ) (packets rows : List Packet) → StandForAll k s packets rows → length rows ≤ k }
     ensures pivots_differ { (k s : ℕ) (packets rows : List Packet) → StandForAll k s packets rows
         → (i j : ℕ) (row : Packet) → i < j → j < length rows → pivot_of (slice_index_or rows i row) ≢ pivot_of (slice_index_or rows j row) }
@@ -52,6 +54,9 @@ pub fn decision()
     ensures within { (k s : ℕ) (packets rows : List Packet) (packet : Packet) → All (Fits k s) packets → Fits k s packet → StandForAll k s packets rows
         → take k (remainder_of rows (vector_of packet)) ≡ replicate k 0
         → IsWithin k s packets packet ↔ (drop k (remainder_of rows (vector_of packet)) ≡ replicate s 0) }
+    ensures conflicting { (k s : ℕ) (packets rows : List Packet) (packet : Packet) → All (Fits k s) packets → Fits k s packet → StandForAll k s packets rows
+        → IsConflicting k s packets packet
+        ↔ ((take k (remainder_of rows (vector_of packet)) ≡ replicate k 0) × (drop k (remainder_of rows (vector_of packet)) ≢ replicate s 0)) }
     ensures row { (k s : ℕ) (packets rows : List Packet) (packet : Packet) → All (Fits k s) packets → Fits k s packet → StandForAll k s packets rows
         → IsFresh k packets packet → (row : Packet) × IsRowOf k rows packet row }
     ensures stands { (k s : ℕ) (packets rows : List Packet) (packet row : Packet) → All (Fits k s) packets → Fits k s packet → StandForAll k s packets rows
@@ -67,6 +72,8 @@ pub fn decision()
 /// At each front that fits, exactly one case of a packet holds.
 pub fn one_case()
     ensures one_case { (k s : ℕ) (front : List Packet) (packet : Packet) → All (Fits k s) front → Fits k s packet → IsOneCase k s front packet }
+    ensures within_follows { (k s : ℕ) (front : List Packet) (packet : Packet) → All (Fits k s) front → Fits k s packet
+        → IsWithin k s front packet → InSpan k (coefficients_of front) packet.coeffs }
     ensures fresh_first { (k : ℕ) (packet : Packet) → IsFresh k [] packet ↔ (packet.coeffs ≢ replicate k 0) }
     ensures within_first { (k s : ℕ) (packet : Packet) → IsWithin k s [] packet ↔ (vector_of packet ≡ replicate (k + s) 0) }
 {
@@ -79,6 +86,11 @@ pub fn ranks()
     ensures one { (n : ℕ) (vectors : List (List ℕ)) (r q : ℕ) → HasRank n vectors r → HasRank n vectors q → r ≡ q }
     ensures at_most_count { (n : ℕ) (vectors : List (List ℕ)) (r : ℕ) → HasRank n vectors r → r ≤ length vectors }
     ensures at_most_symbols { (n : ℕ) (vectors : List (List ℕ)) (r : ℕ) → All (IsVector n) vectors → HasRank n vectors r → r ≤ n }
+    ensures more { (n r : ℕ) (vectors : List (List ℕ)) (vector : List ℕ) → HasRank n vectors r
+        → (InSpan n vectors vector → HasRank n (vectors ++ vector ∷ []) r)
+        × ((¬ InSpan n vectors vector) → HasRank n (vectors ++ vector ∷ []) (suc r)) }
+    ensures one_span { (n r : ℕ) (vectors others : List (List ℕ)) → All (IsVector n) vectors → All (IsVector n) others
+        → HaveOneSpan n vectors others → HasRank n vectors r → HasRank n others r }
 {
     gf16::laws::field();
 }
