@@ -88,19 +88,27 @@ rank_spans field n before (v ∷ vs) r by_before by_vs (inl within) =
     let bs = rest.0 in
     let all = All-append (IsVector n) before bs by_before rest.2 in
     let members = span-members field n (before ++ bs) all in
-    let P = InSpan n (before ++ bs) in
-    (bs, rest.1, rest.2, λ x h.
-      span-closed field n ((before ++ v ∷ []) ++ bs) (before ++ bs) x (All-append (IsVector n) (before ++ v ∷ []) bs longer rest.2) all
-      (All-append P (before ++ v ∷ []) bs
-      (All-push P before v (All-left P before bs members) (span-grows field n before bs v all within.0))
-      (All-right P before bs members))
-      (rest.3 x (subst (λ us. InSpan n us x) (sym (append_assoc before (v ∷ []) vs)) h)))
+    let P = InSpan n (before ++ bs) in (
+      bs,
+      rest.1,
+      rest.2,
+      λ x h.
+          span-closed field n ((before ++ v ∷ []) ++ bs) (before ++ bs) x (All-append (IsVector n) (before ++ v ∷ []) bs longer rest.2) all
+          (All-append P (before ++ v ∷ []) bs
+          (All-push P before v (All-left P before bs members) (span-grows field n before bs v all within.0))
+          (All-right P before bs members))
+          (rest.3 x (subst (λ us. InSpan n us x) (sym (append_assoc before (v ∷ []) vs)) h)),
+    )
 rank_spans field n before (v ∷ vs) r by_before by_vs (inr fresh) =
     let by_v = All-head (IsVector n) v vs by_vs in
-    let rest = rank_spans field n (before ++ v ∷ []) vs fresh.1 (All-push (IsVector n) before v by_before by_v) (All-tail (IsVector n) v vs by_vs) fresh.3 in
-    (v ∷ rest.0, ap suc rest.1 ∙ sym fresh.2, All-cons (IsVector n) v rest.0 by_v rest.2, λ x h.
-      subst (λ us. InSpan n us x) (append_assoc before (v ∷ []) rest.0)
-      (rest.3 x (subst (λ us. InSpan n us x) (sym (append_assoc before (v ∷ []) vs)) h)))
+    let rest = rank_spans field n (before ++ v ∷ []) vs fresh.1 (All-push (IsVector n) before v by_before by_v) (All-tail (IsVector n) v vs by_vs) fresh.3 in (
+      v ∷ rest.0,
+      ap suc rest.1 ∙ sym fresh.2,
+      All-cons (IsVector n) v rest.0 by_v rest.2,
+      λ x h.
+          subst (λ us. InSpan n us x) (append_assoc before (v ∷ []) rest.0)
+          (rest.3 x (subst (λ us. InSpan n us x) (sym (append_assoc before (v ∷ []) vs)) h)),
+    )
 
 -- vectors that lie in the span of others have at most their rank
 rank_within : (field : IsField) (n : ℕ) (vs ws : List (List ℕ)) (r q : ℕ) → All (IsVector n) vs → All (IsVector n) ws

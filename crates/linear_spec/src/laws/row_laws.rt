@@ -9,7 +9,8 @@ ghost use Rattle.linear_spec.specs.Span.{InSpan, HaveOneSpan, HasRank};
 ghost use Rattle.linear_spec.specs.Cases.{IsFresh, IsWithin, IsConflicting, IsOneCase};
 ghost use Rattle.linear_spec.specs.Rows.{StandsFor, StandForAll, IsRowOf, pivot_of, remainder_of};
 
-/// Rows that stand for packets span what the packets span; each packet is fresh after those before it.
+/// Rows that stand for packets span what the packets span; each packet is fresh after those before it, so the rank of both
+/// is their number.
 pub fn rows()
     ensures none { (k s : ℕ) → StandForAll k s [] [] }
     ensures front { (k s n : ℕ) (packets rows : List Packet) → StandForAll k s packets rows → StandForAll k s (take n packets) (take n rows) }
@@ -44,7 +45,7 @@ pub fn reduction()
     gf16::laws::field();
 }
 
-/// What the remainder of a packet's vector by rows tells: whether the packet is fresh, whether it is within, and the row
+/// What the remainder of a packet's vector by rows tells: whether the packet is fresh, within or conflicting, and the row
 /// that a fresh packet gives.
 pub fn decision()
     ensures fresh { (k s : ℕ) (packets rows : List Packet) (packet : Packet) → All (Fits k s) packets → Fits k s packet → StandForAll k s packets rows
@@ -69,7 +70,7 @@ pub fn decision()
     gf16::laws::field();
 }
 
-/// At each front that fits, exactly one case of a packet holds.
+/// At each front that fits, exactly one case of a packet holds; the coefficients of a packet within follow from the front's.
 pub fn one_case()
     ensures one_case { (k s : ℕ) (front : List Packet) (packet : Packet) → All (Fits k s) front → Fits k s packet → IsOneCase k s front packet }
     ensures within_follows { (k s : ℕ) (front : List Packet) (packet : Packet) → All (Fits k s) front → Fits k s packet
@@ -80,7 +81,8 @@ pub fn one_case()
     gf16::laws::field();
 }
 
-/// Every list of vectors of n symbols has exactly one rank. It is at most the number of vectors and at most n.
+/// Every list of vectors of n symbols has exactly one rank. It is at most the number of vectors and at most n, a vector
+/// outside the span makes it one greater, and lists of one span have one rank.
 pub fn ranks()
     ensures some { (n : ℕ) (vectors : List (List ℕ)) → All (IsVector n) vectors → (r : ℕ) × HasRank n vectors r }
     ensures one { (n : ℕ) (vectors : List (List ℕ)) (r q : ℕ) → HasRank n vectors r → HasRank n vectors q → r ≡ q }
