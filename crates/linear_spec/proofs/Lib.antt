@@ -2,6 +2,7 @@ pub mod Decision
 pub mod Echelon
 pub mod PacketLaws
 pub mod RankBounds
+pub mod RankSpans
 pub mod Ranks
 pub mod RowLaws
 pub mod RowPlaces

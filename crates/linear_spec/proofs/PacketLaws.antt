@@ -1,5 +1,5 @@
--- Combinations of packets: of whole vectors, and of packets that are true to blocks.
-use Rattle.std.proofs.Common.{◌≡◌, ℕ, ◌+◌, List, [], ◌∷◌, ◌++◌, length, ap, ap₂, sym, ◌∙◌, arith}
+-- Combinations of combinations, and combinations of packets: of whole vectors, and of packets that are true to blocks.
+use Rattle.std.proofs.Common.{◌≡◌, ℕ, ◌+◌, List, [], ◌∷◌, ◌++◌, length, map, ap, ap₂, sym, ◌∙◌, arith}
 use Rattle.std.specs.List.{All}
 use Rattle.std.proofs.lemmas.List.{replicate-append-replicate}
 use Rattle.std.proofs.lemmas.List.Elements.{All-head, All-tail}
@@ -10,6 +10,23 @@ use Rattle.linear_spec.specs.Symbols.{AreSymbols, IsVector}
 use Rattle.linear_spec.specs.Combination.{combination_of}
 use Rattle.linear_spec.specs.Packet.{Fits, IsTrueTo, vector_of, vectors_of, coefficients_of, payloads_of}
 use Rattle.linear_spec.proofs.SpanLaws.{length-combination, combination-nil, combination-none, combination-zeros, combination-cons_any, combination-plus_scaled, append-plus_scaled}
+
+-- a combination of combinations is a combination of these
+pub combination-nested : (field : IsField) (k n : ℕ) (cs : List ℕ) (lists vs : List (List ℕ)) → AreSymbols cs → length cs ≡ length lists
+    → All (IsVector k) lists → length vs ≡ k → All (IsVector n) vs
+    → combination_of n (combination_of k cs lists) vs ≡ combination_of n cs (map (λ list. combination_of n list vs) lists)
+combination-nested field k n cs [] vs symbols same by_lists count by_vs =
+    ap (λ u. combination_of n u vs) (combination-nil k cs) ∙ combination-zeros field n k vs ∙ sym (combination-nil n cs)
+combination-nested field k n [] (l ∷ ls) vs symbols same by_lists count by_vs = absurd (omega arith)
+combination-nested field k n (c ∷ cs) (l ∷ ls) vs symbols same by_lists count by_vs =
+    let first = All-head (IsVector k) l ls by_lists in
+    let image = λ (list : List ℕ). combination_of n list vs in
+    ap image (combination-cons_any field k c cs l ls)
+    ∙ combination-plus_scaled field n c (combination_of k cs ls) l vs by_vs (All-head IsSymbol c cs symbols)
+    (length-combination k cs ls ∙ sym count) (first.count ∙ sym count)
+    ∙ ap (λ u. plus_scaled u c (image l))
+    (combination-nested field k n cs ls vs (All-tail IsSymbol c cs symbols) (omega arith) (All-tail (IsVector k) l ls by_lists) count by_vs)
+    ∙ sym (combination-cons_any field n c cs (image l) (map image ls))
 
 -- a combination of packets' vectors is that of their coefficients, then that of their payloads
 pub combination-packets : (field : IsField) (k s : ℕ) (cs : List ℕ) (packets : List Packet) → All (Fits k s) packets

@@ -53,8 +53,34 @@ rank_at_most_length_after n before (v ∷ vs) r (inr fresh) =
 pub rank_at_most_length : (n : ℕ) (vs : List (List ℕ)) (r : ℕ) → HasRank n vs r → r ≤ length vs
 rank_at_most_length n vs r rank = rank_at_most_length_after n [] vs r rank
 
+-- one vector more: the rank stays where the vector lies in the span, and else it grows by one
+rank_more_after : (n : ℕ) (before vs : List (List ℕ)) (v : List ℕ) (r : ℕ) → HasRankAfter n before vs r
+    → (InSpan n (before ++ vs) v → HasRankAfter n before (vs ++ v ∷ []) r)
+    × ((¬ InSpan n (before ++ vs) v) → HasRankAfter n before (vs ++ v ∷ []) (suc r))
+rank_more_after n before [] v r rank = (
+  λ span. inl (subst (λ us. InSpan n us v) (append-nil before) span, rank),
+  λ fresh. inr (λ span. fresh (subst (λ us. InSpan n us v) (sym (append-nil before)) span), r, refl, rank),
+)
+rank_more_after n before (w ∷ vs) v r (inl within) =
+    let rest = rank_more_after n (before ++ w ∷ []) vs v r within.1 in
+    let same = append_assoc before (w ∷ []) vs in (
+      λ span. inl (within.0, rest.0 (subst (λ us. InSpan n us v) (sym same) span)),
+      λ new. inl (within.0, rest.1 (λ span. new (subst (λ us. InSpan n us v) same span))),
+    )
+rank_more_after n before (w ∷ vs) v r (inr fresh) =
+    let q = fresh.1 in
+    let rest = rank_more_after n (before ++ w ∷ []) vs v q fresh.3 in
+    let same = append_assoc before (w ∷ []) vs in (
+      λ span. inr (fresh.0, q, fresh.2, rest.0 (subst (λ us. InSpan n us v) (sym same) span)),
+      λ new. inr (fresh.0, suc q, ap suc fresh.2, rest.1 (λ span. new (subst (λ us. InSpan n us v) same span))),
+    )
+
+pub rank_more : (n r : ℕ) (vs : List (List ℕ)) (v : List ℕ) → HasRank n vs r
+    → (InSpan n vs v → HasRank n (vs ++ v ∷ []) r) × ((¬ InSpan n vs v) → HasRank n (vs ++ v ∷ []) (suc r))
+rank_more n r vs v rank = rank_more_after n [] vs v r rank
+
 -- vectors none of which lies in the span of those before it
-rank_of_fresh : (n : ℕ) (front back : List (List ℕ)) → ((i : ℕ) (d : List ℕ) → i < length back → ¬ InSpan n (front ++ take i back) (get_or back i d))
+pub rank_of_fresh : (n : ℕ) (front back : List (List ℕ)) → ((i : ℕ) (d : List ℕ) → i < length back → ¬ InSpan n (front ++ take i back) (get_or back i d))
     → HasRankAfter n front back (length back)
 rank_of_fresh n front [] fresh = refl
 rank_of_fresh n front (v ∷ vs) fresh = inr (

@@ -1,23 +1,24 @@
 -- The laws of rows in the forms that the law functions state.
-use Rattle.std.proofs.Common.{◌≡◌, ◌≢◌, ◌↔◌, ℕ, ◌+◌, ◌<◌, List, [], ◌∷◌, ◌++◌, length, take, get_or, replicate, refl, sym, ap, ◌∙◌, subst, arith}
+use Rattle.std.proofs.Common.{◌≡◌, ◌≢◌, ◌↔◌, ℕ, ◌+◌, ◌<◌, List, [], ◌∷◌, ◌++◌, length, take, drop, get_or, replicate, refl, sym, ap, ◌∙◌, subst, arith}
 use Rattle.std.specs.List.{All}
-use Rattle.std.proofs.lemmas.List.{get_or-take, take-take, length-take, length_push}
+use Rattle.std.proofs.lemmas.List.{get_or-take, get_or-map, take-take, take-map, length-map, length-take, length_push}
 use Rattle.std.proofs.lemmas.List.Elements.{All-nil, All-take}
 use Rattle.gf16.specs.Field.{IsField}
 use Rattle.gf16.specs.Sums.{plus_scaled}
 use Rattle.linear_spec.specs.declared.packet.Packet.{Packet}
 use Rattle.linear_spec.specs.Symbols.{IsVector}
-use Rattle.linear_spec.specs.Span.{InSpan}
+use Rattle.linear_spec.specs.Span.{InSpan, HasRank}
 use Rattle.linear_spec.specs.Packet.{Fits, vector_of, vectors_of, coefficients_of}
-use Rattle.linear_spec.specs.Cases.{IsFresh, IsWithin}
+use Rattle.linear_spec.specs.Cases.{IsFresh, IsWithin, IsConflicting}
 use Rattle.linear_spec.specs.Rows.{StandForAll, pivot_of, remainder_of}
 use Rattle.linear_spec.proofs.SpanLaws.{take-plus_scaled, plus_scaled-twice, span-empty, span-zero, span-plus_scaled}
 use Rattle.linear_spec.proofs.Echelon.{remainder-clear, remainder-in_span}
 use Rattle.linear_spec.proofs.RowSpans.{rows_same_coefficients, take-vector, span-coefficients, IsVector-coefficients}
 use Rattle.linear_spec.proofs.RowPlaces.{echelon_vectors}
-use Rattle.linear_spec.proofs.Ranks.{row_fresh}
+use Rattle.linear_spec.proofs.SpanDecides.{span_decides}
+use Rattle.linear_spec.proofs.Ranks.{rank_of_fresh, row_fresh}
 use Rattle.linear_spec.proofs.RankBounds.{rows_at_most, fresh_gives_row}
-use Rattle.linear_spec.proofs.Decision.{row_joins, in_span_from_remainder, remainder_from_in_span}
+use Rattle.linear_spec.proofs.Decision.{within_exactly, row_joins, in_span_from_remainder, remainder_from_in_span}
 
 pub remainder-push : (rows : List Packet) (row : Packet) (v : List ℕ)
     → remainder_of (rows ++ row ∷ []) v ≡ plus_scaled (remainder_of rows v) (get_or (remainder_of rows v) (pivot_of row) 0) (vector_of row)
@@ -81,6 +82,36 @@ packet_fresh field k s at packets rows packet fit stand below span =
     (IsVector-coefficients k s earlier earlier_fit) stands.multiple_is_symbol sum span) in
     row_fresh field k s packets rows stand at packet within
     ((rows_same_coefficients k s field earlier (take at rows) earlier_fit (stand_front k s at packets rows stand) row.coeffs).0 row_follows)
+
+-- the packets that rows stand for have as large a rank as can be
+pub packets_rank : (field : IsField) (k s : ℕ) (packets rows : List Packet) → All (Fits k s) packets → StandForAll k s packets rows
+    → HasRank k (coefficients_of packets) (length packets)
+packets_rank field k s packets rows fit stand =
+    subst (HasRank k (coefficients_of packets)) (length-map packets (λ packet. packet.coeffs))
+    (rank_of_fresh k [] (coefficients_of packets) (λ i d h span.
+    let blank : Packet = record { generation = 0; coeffs = d; payload = [] } in
+    let below : i < length packets = omega (arith, length-map packets (λ packet. packet.coeffs)) in
+    packet_fresh field k s i packets rows blank fit stand below
+    (subst (InSpan k (coefficients_of (take i packets))) (get_or-map (λ packet. packet.coeffs) packets i blank d below)
+    (subst (λ us. InSpan k us (get_or (coefficients_of packets) i d)) (take-map (λ packet. packet.coeffs) i packets) span))))
+
+-- a packet conflicts where its remainder has no coefficient but some payload
+pub conflicting_exactly : (field : IsField) (k s : ℕ) (packets rows : List Packet) (packet : Packet) → All (Fits k s) packets → Fits k s packet
+    → StandForAll k s packets rows
+    → IsConflicting k s packets packet ↔ ((take k (remainder_of rows (vector_of packet)) ≡ replicate k 0) × (drop k (remainder_of rows (vector_of packet)) ≢ replicate s 0))
+conflicting_exactly field k s packets rows packet fit fits stand = (
+  λ conflict.
+      let none = forced conflict.0 (span_decides field k (coefficients_of packets) packet.coeffs (IsVector-coefficients k s packets fit) fits.coeffs) in
+      (none, λ rest. conflict.1 ((within_exactly field k s packets rows packet fit fits stand none).1 rest)),
+  λ facts. (
+    λ fresh. fresh (in_span_from_remainder field k s packets rows packet fit fits stand facts.0),
+    λ within. facts.1 ((within_exactly field k s packets rows packet fit fits stand facts.0).0 within),
+  ),
+)
+  where
+    forced : (¬ IsFresh k packets packet) → Dec (InSpan k (coefficients_of packets) packet.coeffs) → take k (remainder_of rows (vector_of packet)) ≡ replicate k 0
+    forced stale (yes span) = remainder_from_in_span field k s packets rows packet fit fits stand span
+    forced stale (no fresh) = absurd (stale fresh)
 
 pub fresh_at_none : (field : IsField) (k : ℕ) (packet : Packet) → IsFresh k [] packet ↔ (packet.coeffs ≢ replicate k 0)
 fresh_at_none field k packet = (

@@ -61,12 +61,17 @@ span_decides field n (w ∷ vs) v are by_v =
         let split = span-head field n w vs v by_w span in
         none (split.0, split.2, subst (InSpan n vs) (sym (ap (λ u. plus_scaled u split.0 w) split.4 ∙ plus_scaled-twice field split.0 split.1 w)) split.3))
 
+pub within_follows : (field : IsField) (k s : ℕ) (front : List Packet) (packet : Packet) → All (Fits k s) front → Fits k s packet
+    → IsWithin k s front packet → InSpan k (coefficients_of front) packet.coeffs
+within_follows field k s front packet fit fits within =
+    subst (InSpan k (coefficients_of front)) (take-vector k s packet fits) (span-coefficients k s field front (vector_of packet) fit within)
+
 pub one_case : (field : IsField) (k s : ℕ) (front : List Packet) (packet : Packet) → All (Fits k s) front → Fits k s packet → IsOneCase k s front packet
 one_case field k s front packet fit fits = record {
   some = cases
       (span_decides field k (coefficients_of front) packet.coeffs (IsVector-coefficients k s front fit) fits.coeffs)
       (span_decides field (k + s) (vectors_of front) (vector_of packet) (IsVector-vectors k s front fit) (IsVector-vector k s packet fits));
-  within_is_not_fresh = λ within fresh. fresh (subst (InSpan k (coefficients_of front)) (take-vector k s packet fits) (span-coefficients k s field front (vector_of packet) fit within));
+  within_is_not_fresh = λ within fresh. fresh (within_follows field k s front packet fit fits within);
 }
   where
     cases : Dec (InSpan k (coefficients_of front) packet.coeffs) → Dec (IsWithin k s front packet)

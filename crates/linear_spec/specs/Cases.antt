@@ -1,4 +1,6 @@
--- The three cases of a packet at a front, a list of packets: each has k coefficients and s payload symbols.
+-- The three cases of a packet at a front: fresh, within or conflicting.
+-- k, s: the numbers of coefficients and of payload symbols of each packet. front: the packets that there were before.
+-- follow: to lie in the span of the front's.
 use Rattle.std.specs.Prelude.{◌⊎◌, ℕ, ◌+◌, List}
 use Rattle.linear_spec.specs.declared.packet.Packet.{Packet}
 use Rattle.linear_spec.specs.Packet.{vector_of, vectors_of, coefficients_of}

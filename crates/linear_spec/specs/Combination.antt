@@ -1,4 +1,6 @@
--- Linear combinations of vectors. A vector of n symbols is a list of them, and vectors are a list of such lists.
+-- Linear combinations of vectors.
+-- n: the number of symbols of each vector. vectors: a list of lists of n symbols. coefficients: a symbol for each vector.
+-- place: that of a symbol in a vector, from 0. column: the symbols that the vectors have at one place.
 use Rattle.std.specs.Prelude.{ℕ, List, map, slice_index}
 use Rattle.std.specs.List.{range_with_len}
 use Rattle.gf16.specs.Sums.{dot_of}

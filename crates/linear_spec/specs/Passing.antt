@@ -1,14 +1,26 @@
--- Which packets pass given equations: two plain sums for each check.
+-- Which packets pass given equations: two plain sums for each check. What is said here is meant for packets that are
+-- testable by the equations.
+-- checks: the number of checks. k, s: the numbers of coefficients and of payload symbols of a packet, so of the blocks of
+-- a generation and of the symbols of a block. generations: their number. weights: s symbols for each check. sums: for each
+-- generation and check k symbols, the weighted sum of each block.
 use Rattle.std.specs.Prelude.{◌≡◌, ℕ, ◌+◌, ◌*◌, ◌<◌, List, take, drop}
 use Rattle.gf16.specs.Sums.{dot_of}
 use Rattle.linear_spec.specs.declared.equations.Equations.{Equations}
 use Rattle.linear_spec.specs.declared.packet.Packet.{Packet}
 use Rattle.linear_spec.specs.Symbols.{IsVector}
+use Rattle.linear_spec.specs.Packet.{Fits}
 
 -- the lists have the lengths that the numbers say
 pub record AreEquations (equations : Equations) : Type 0 where
   pub weights : IsVector (equations.checks * equations.s) equations.weights
   pub sums : IsVector (equations.generations * equations.checks * equations.k) equations.sums
+
+-- a packet that the equations speak of: it has their lengths, and its generation is one of theirs. For another packet the
+-- lists below may be cut short, and Meets and Passes then say nothing of a source
+pub record IsTestable (equations : Equations) (packet : Packet) : Type 0 where
+  pub are_equations : AreEquations equations
+  pub fits : Fits equations.k equations.s packet
+  pub generation_below : packet.generation < equations.generations
 
 -- the weights of a check
 abbrev pub weights_of : Equations → ℕ → List ℕ

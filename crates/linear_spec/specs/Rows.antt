@@ -1,6 +1,9 @@
--- Rows in echelon form: a row stands for a packet after those before it. A row has the form of a packet.
+-- Rows in echelon form: a row stands for a packet after those before it.
+-- k, s: the numbers of coefficients and of payload symbols of each packet. row: what has the form of a packet. column: the
+-- place of a coefficient, below k. pivot: the column of a row's first coefficient that is not 0. remainder: what rows leave
+-- of a vector. missing: a column below k that is the pivot of no row.
 use Rattle.std.specs.Prelude.{◌≡◌, ◌≢◌, ℕ, ◌+◌, ◌<◌, List, [], ◌∷◌, length, take, drop, not, ◌==◌, slice_index, slice_index_or}
-use Rattle.std.specs.List.{All, position_or_len}
+use Rattle.std.specs.List.{All, position_or_len, filter, list_any, range_with_len}
 use Rattle.gf16.specs.Field.{IsSymbol, product_of}
 use Rattle.gf16.specs.Sums.{plus_scaled, scaled}
 use Rattle.linear_spec.specs.declared.packet.Packet.{Packet}
@@ -34,9 +37,9 @@ pub record StandForAll (k s : ℕ) (packets rows : List Packet) : Type 0 where
   pub each : (i : ℕ) (packet row : Packet) → i < length packets
       → StandsFor k s (take i packets) (take i rows) (slice_index_or packets i packet) (slice_index_or rows i row)
 
--- the columns that are the pivot of no row
-abbrev pub IsMissing : List Packet → ℕ → Type 0
-IsMissing rows column = All (λ row. pivot_of row ≢ column) rows
+-- the columns below k that are the pivot of no row, rising
+abbrev pub missing_columns_of : ℕ → List Packet → List ℕ
+missing_columns_of k rows = filter (λ column. not (list_any (λ row. pivot_of row == column) rows)) (range_with_len 0 k)
 
 -- a vector reduced by rows, row after row: the row times the symbol at its pivot is subtracted, which is to add it
 abbrev pub remainder_of : List Packet → List ℕ → List ℕ

@@ -1,5 +1,8 @@
 -- The sequential basis: what one thread would keep and answer. Its state is a list of records; it knows no rows and no
 -- pivots.
+-- record: a packet that was kept, with its caller and the number of the caller's call. front: the packets of the records
+-- that there are. at: their number. offer: a packet handed in, which is answered by a reply. draw: the question how many
+-- records a combination may use. k, s: the numbers of coefficients and of payload symbols of each packet.
 use Rattle.std.specs.Prelude.{◌≡◌, ℕ, ◌<◌, List, [], ◌∷◌, ◌++◌, length, map}
 use Rattle.linear_spec.specs.declared.equations.Equations.{Equations}
 use Rattle.linear_spec.specs.declared.packet.Packet.{Packet}
@@ -11,6 +14,7 @@ use Rattle.linear_spec.specs.declared.reply.Reply.TheVariants.{FailedCheck, Inno
 use Rattle.linear_spec.specs.Passing.{Passes, IsFirstFailing}
 use Rattle.linear_spec.specs.Cases.{IsFresh, IsWithin, IsConflicting}
 
+-- the packets of records, in their order
 abbrev pub packets_of : List Record → List Packet
 packets_of records = map (λ record'. record'.packet) records
 

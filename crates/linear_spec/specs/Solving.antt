@@ -1,4 +1,6 @@
 -- Blocks that solve a list of packets.
+-- k: the number of blocks, and of coefficients of a packet. s: the number of symbols of a block, and of a payload. true to
+-- blocks: with a payload that is their combination with the packet's coefficients.
 use Rattle.std.specs.Prelude.{◌≡◌, ℕ, List, length}
 use Rattle.std.specs.List.{All}
 use Rattle.linear_spec.specs.declared.packet.Packet.{Packet}

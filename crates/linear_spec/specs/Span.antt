@@ -1,4 +1,6 @@
 -- The span and the rank of a list of vectors of n symbols.
+-- n: the number of symbols of each vector. span: all combinations of the vectors, with symbols as coefficients.
+-- before: the vectors that stand before a list. r: a rank.
 use Rattle.std.specs.Prelude.{◌≡◌, ◌⊎◌, ◌↔◌, ℕ, suc, List, [], ◌∷◌, ◌++◌, length}
 use Rattle.linear_spec.specs.Symbols.{IsVector}
 use Rattle.linear_spec.specs.Combination.{combination_of}

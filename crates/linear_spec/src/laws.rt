@@ -1,4 +1,4 @@
-//! Laws over the definitions alone: each is the contract of a function with an empty body.
+//! Laws over the definitions alone: each is the contract of a function that does nothing but take other laws.
 mod row_calls;
 mod row_laws;
 mod solving_laws;

@@ -36,7 +36,7 @@ pub fn spans()
     gf16::laws::field();
 }
 
-/// The laws of combinations, for every list of packets that fit.
+/// The laws of combinations, for every list of vectors and of packets that fit.
 pub fn combinations()
     ensures none { (n : ℕ) (coefficients : List ℕ) → combination_of n coefficients [] ≡ replicate n 0 }
     ensures first { (n c : ℕ) (coefficients vector : List ℕ) (vectors : List (List ℕ))
@@ -52,6 +52,13 @@ pub fn combinations()
         → length coefficients ≡ length packets → All (Fits k s) packets → All (IsTrueTo s blocks) packets
         → length blocks ≡ k → All (IsVector s) blocks
         → combination_of s (combination_of k coefficients (coefficients_of packets)) blocks ≡ combination_of s coefficients (payloads_of packets) }
+    ensures nested { (k n : ℕ) (coefficients : List ℕ) (lists vectors : List (List ℕ)) → AreSymbols coefficients → length coefficients ≡ length lists
+        → All (IsVector k) lists → length vectors ≡ k → All (IsVector n) vectors
+        → combination_of n (combination_of k coefficients lists) vectors
+        ≡ combination_of n coefficients (map (λ list. combination_of n list vectors) lists) }
+    ensures linear { (n c : ℕ) (first second : List ℕ) (vectors : List (List ℕ)) → All (IsVector n) vectors → IsSymbol c
+        → length first ≡ length vectors → length second ≡ length vectors
+        → combination_of n (plus_scaled first c second) vectors ≡ plus_scaled (combination_of n first vectors) c (combination_of n second vectors) }
 {
     gf16::laws::field();
 }

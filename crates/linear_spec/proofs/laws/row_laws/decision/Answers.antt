@@ -1,7 +1,7 @@
 use Rattle.linear_spec.proofs.Decision.{fresh_exactly, within_exactly, row_stands}
 use Rattle.linear_spec.proofs.RankBounds.{fresh_gives_row}
 use Rattle.linear_spec.proofs.RowPlaces.{stand_push}
-use Rattle.linear_spec.proofs.RowLaws.{follows_exactly, none_fresh}
+use Rattle.linear_spec.proofs.RowLaws.{follows_exactly, conflicting_exactly, none_fresh}
 use Rattle.linear_spec.proofs.laws.row_laws.decision.Goals as goal
 
 pub returns-clause-fresh : goal.returns-clause-fresh
@@ -12,6 +12,9 @@ returns-clause-follows c = follows_exactly c.field.ensures
 
 pub returns-clause-within : goal.returns-clause-within
 returns-clause-within c = within_exactly c.field.ensures
+
+pub returns-clause-conflicting : goal.returns-clause-conflicting
+returns-clause-conflicting c = conflicting_exactly c.field.ensures
 
 pub returns-clause-row : goal.returns-clause-row
 returns-clause-row c = fresh_gives_row c.field.ensures

@@ -1,4 +1,4 @@
-use Rattle.linear_spec.proofs.SpanDecides.{one_case}
+use Rattle.linear_spec.proofs.SpanDecides.{one_case, within_follows}
 use Rattle.linear_spec.proofs.RowLaws.{fresh_at_none, within_at_none}
 use Rattle.linear_spec.proofs.laws.row_laws.one_case.Goals as goal
 
@@ -10,3 +10,6 @@ returns-clause-fresh_first c = fresh_at_none c.field.ensures
 
 pub returns-clause-within_first : goal.returns-clause-within_first
 returns-clause-within_first c = within_at_none c.field.ensures
+
+pub returns-clause-within_follows : goal.returns-clause-within_follows
+returns-clause-within_follows c = within_follows c.field.ensures

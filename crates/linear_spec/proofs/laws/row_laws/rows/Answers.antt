@@ -2,7 +2,7 @@ use Rattle.linear_spec.proofs.RowPlaces.{stand_none}
 use Rattle.linear_spec.proofs.RowSpans.{rows_fit, rows_same_span, rows_same_coefficients}
 use Rattle.linear_spec.proofs.Ranks.{rows_rank}
 use Rattle.linear_spec.proofs.RankBounds.{rows_at_most, pivots_differ}
-use Rattle.linear_spec.proofs.RowLaws.{stand_front, packet_fresh}
+use Rattle.linear_spec.proofs.RowLaws.{stand_front, packet_fresh, packets_rank}
 use Rattle.linear_spec.proofs.laws.row_laws.rows.Goals as goal
 
 pub returns-clause-none : goal.returns-clause-none
@@ -25,6 +25,9 @@ returns-clause-fresh c = packet_fresh c.field.ensures
 
 pub returns-clause-rank : goal.returns-clause-rank
 returns-clause-rank c = rows_rank c.field.ensures
+
+pub returns-clause-packets_rank : goal.returns-clause-packets_rank
+returns-clause-packets_rank c = packets_rank c.field.ensures
 
 pub returns-clause-at_most : goal.returns-clause-at_most
 returns-clause-at_most c = rows_at_most

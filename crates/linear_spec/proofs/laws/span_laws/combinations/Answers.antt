@@ -1,5 +1,5 @@
-use Rattle.linear_spec.proofs.SpanLaws.{combination-nil, combination-cons_any, combination-push, IsVector-combination}
-use Rattle.linear_spec.proofs.PacketLaws.{combination-packets, combination-true}
+use Rattle.linear_spec.proofs.SpanLaws.{combination-nil, combination-cons_any, combination-push, combination-plus_scaled, IsVector-combination}
+use Rattle.linear_spec.proofs.PacketLaws.{combination-nested, combination-packets, combination-true}
 use Rattle.linear_spec.proofs.laws.span_laws.combinations.Goals as goal
 
 pub returns-clause-none : goal.returns-clause-none
@@ -19,3 +19,9 @@ returns-clause-packets c = combination-packets c.field.ensures
 
 pub returns-clause-truth : goal.returns-clause-truth
 returns-clause-truth c = combination-true c.field.ensures
+
+pub returns-clause-nested : goal.returns-clause-nested
+returns-clause-nested c = combination-nested c.field.ensures
+
+pub returns-clause-linear : goal.returns-clause-linear
+returns-clause-linear c = combination-plus_scaled c.field.ensures
