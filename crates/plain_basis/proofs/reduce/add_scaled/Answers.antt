@@ -1,4 +1,4 @@
-use Rattle.std.proofs.Common.{◌≡◌, ◌<◌, length, get_or, set, ap, ◌∙◌, arith}
+use Rattle.std.proofs.Common.{◌<◌, length, get_or, set, ap, ◌∙◌, arith}
 use Rattle.gf16.specs.Field.{sum_of}
 use Rattle.plain_basis.proofs.PlusScaled.{plus_scaled-none, plus_scaled_more}
 use Rattle.plain_basis.proofs.reduce.add_scaled.Goals as goal

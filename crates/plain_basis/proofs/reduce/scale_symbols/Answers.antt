@@ -1,4 +1,4 @@
-use Rattle.std.proofs.Common.{◌≡◌, ◌<◌, length, set, ap, ◌∙◌, arith}
+use Rattle.std.proofs.Common.{◌<◌, length, set, ap, ◌∙◌, arith}
 use Rattle.plain_basis.proofs.Scaled.{scaled_more}
 use Rattle.plain_basis.proofs.reduce.scale_symbols.Goals as goal
 

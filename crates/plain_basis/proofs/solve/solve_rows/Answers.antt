@@ -1,7 +1,7 @@
-use Rattle.std.proofs.Common.{rules, ◌≡◌, ℕ, ◌-◌, ◌<◌, ◌≤◌, List, length, get_or, sym, subst, ◌∙◌, ap, arith}
+use Rattle.std.proofs.Common.{◌≡◌, ℕ, List, length, sym, subst, arith}
 use Rattle.linear_spec.specs.declared.packet.Packet.{Packet}
 use Rattle.plain_basis.specs.BackSubstitution.{AreRows}
-use Rattle.plain_basis.proofs.BackSubstitution.{HasBlockLaws, IsSolvedFrom, solved_none, solved_all, as_many, as_long, has_pivot, solved_step}
+use Rattle.plain_basis.proofs.BackSubstitution.{HasBlockLaws, IsSolvedFrom, solved_none, as_many, as_long, has_pivot, solved_step}
 use Rattle.plain_basis.proofs.solve.solve_rows.Goals as goal
 
 rows_of : (k s : ℕ) (rows items : List Packet) → rows ≡ items → AreRows k s items → AreRows k s rows

@@ -1,11 +1,10 @@
-use Rattle.std.proofs.Common.{rules, ◌≡◌, ◌≢◌, ◌<◌, List, ◌∷◌, [], ◌++◌, length, replicate, get_or, true, false, refl, sym, ap, ◌∙◌, subst, arith}
-use Rattle.linear_spec.specs.declared.packet.Packet.{Packet}
-use Rattle.gf16.specs.Field.{IsSymbol, product_of}
+use Rattle.std.proofs.Common.{rules, ◌≡◌, ◌∷◌, [], ◌++◌, length, replicate, get_or, true, false, refl, sym, ap, ◌∙◌, subst, arith}
+use Rattle.gf16.specs.Field.{product_of}
 use Rattle.linear_spec.specs.Cases.{IsFresh, IsWithin, IsConflicting}
 use Rattle.linear_spec.specs.Packet.{Fits}
 use Rattle.linear_spec.specs.Rows.{first_nonzero}
 use Rattle.plain_basis.specs.Basis.{Basis, IsSound}
-use Rattle.plain_basis.proofs.Offers.{IsReduced, rows_fit_vector, pivots_below_vector, reduced_parts, is_fresh, sound_after, is_within, is_conflicting}
+use Rattle.plain_basis.proofs.Offers.{rows_fit_vector, pivots_below_vector, reduced_parts, is_fresh, sound_after, is_within, is_conflicting}
 use Rattle.plain_basis.proofs.basis.PlainBasis.offer.Goals as goal
 
 pub reduce-requires-clause-fit : goal.reduce-requires-clause-fit

@@ -1,4 +1,4 @@
-use Rattle.std.proofs.Common.{◌≡◌, ◌≤◌, ◌<◌, length, sym, ap, ◌∙◌, subst, arith}
+use Rattle.std.proofs.Common.{sym, subst, arith}
 use Rattle.linear_spec.specs.Packet.{coefficients_of}
 use Rattle.linear_spec.specs.Span.{HasRank}
 use Rattle.plain_basis.proofs.RecordRank.{rank_of_records}

@@ -1,7 +1,6 @@
-use Rattle.std.proofs.Common.{◌≡◌, ℕ, List, length, sym, subst}
+use Rattle.std.proofs.Common.{◌≡◌, length, sym, subst}
 use Rattle.std.specs.Result.{IfOk}
 use Rattle.std.proofs.lemmas.Result.{IfOk-weaker}
-use Rattle.linear_spec.specs.List.{ListValue}
 use Rattle.linear_spec.specs.Solving.{Solve}
 use Rattle.plain_basis.specs.Solutions.{IsOnlySolution}
 use Rattle.plain_basis.proofs.basis.PlainBasis.solve.Goals as goal
