@@ -1,7 +1,8 @@
 -- The laws of rows in the forms that the law functions state.
-use Rattle.std.proofs.Common.{◌≡◌, ◌≢◌, ◌↔◌, ℕ, ◌+◌, ◌<◌, List, [], ◌∷◌, ◌++◌, length, take, drop, get_or, replicate, refl, sym, ap, ◌∙◌, subst, arith}
+use Rattle.std.proofs.Common.{◌≡◌, ◌≢◌, ◌↔◌, ℕ, zero, suc, ◌+◌, ◌<◌, ◌≤◌, List, [], ◌∷◌, ◌++◌, length, take, drop, get_or, replicate, refl, sym, ap, ◌∙◌, subst, arith}
 use Rattle.std.specs.List.{All}
-use Rattle.std.proofs.lemmas.List.{get_or-take, get_or-map, take-take, take-map, length-map, length-take, length_push}
+use Rattle.std.proofs.lemmas.List.{take_all, get_or-take, get_or-map, take-take, take-map, length-map, length-take, length_push}
+use Rattle.std.proofs.Math.Seq.{take-suc}
 use Rattle.std.proofs.lemmas.List.Elements.{All-nil, All-take}
 use Rattle.gf16.specs.Field.{IsField}
 use Rattle.gf16.specs.Sums.{plus_scaled}
@@ -14,7 +15,7 @@ use Rattle.linear_spec.specs.Rows.{StandForAll, pivot_of, remainder_of}
 use Rattle.linear_spec.proofs.SpanLaws.{take-plus_scaled, plus_scaled-twice, span-empty, span-zero, span-plus_scaled}
 use Rattle.linear_spec.proofs.Echelon.{remainder-clear, remainder-in_span}
 use Rattle.linear_spec.proofs.RowSpans.{rows_same_coefficients, take-vector, span-coefficients, IsVector-coefficients}
-use Rattle.linear_spec.proofs.RowPlaces.{echelon_vectors}
+use Rattle.linear_spec.proofs.RowPlaces.{stand_none, echelon_vectors}
 use Rattle.linear_spec.proofs.SpanDecides.{span_decides}
 use Rattle.linear_spec.proofs.Ranks.{rank_of_fresh, row_fresh}
 use Rattle.linear_spec.proofs.RankBounds.{rows_at_most, fresh_gives_row}
@@ -124,3 +125,28 @@ within_at_none field k s packet = (
   span-empty (k + s) (vector_of packet),
   λ zero. subst (InSpan (k + s) []) (sym zero) (span-zero field (k + s) [] (All-nil (IsVector (k + s)))),
 )
+
+-- packets each of which is fresh after those before it have rows
+rows_exist_upto : (field : IsField) (k s : ℕ) (packets : List Packet) → All (Fits k s) packets
+    → ((at : ℕ) (packet : Packet) → at < length packets → IsFresh k (take at packets) (get_or packets at packet))
+    → (n : ℕ) → n ≤ length packets → (rows : List Packet) × StandForAll k s (take n packets) rows
+rows_exist_upto field k s packets fit fresh zero within = ([], stand_none k s)
+rows_exist_upto field k s packets fit fresh (suc n) within =
+    let blank : Packet = record { generation = 0; coeffs = []; payload = [] } in
+    let inside : n < length packets = omega arith in
+    let packet = get_or packets n blank in
+    let fits = fit n blank inside in
+    let earlier_fit = All-take (Fits k s) n packets fit in
+    let earlier = rows_exist_upto field k s packets fit fresh n (omega arith) in
+    let row = fresh_gives_row field k s (take n packets) earlier.0 packet earlier_fit fits earlier.1 (fresh n blank inside) in (
+      earlier.0 ++ row.0 ∷ [],
+      subst (λ front. StandForAll k s front (earlier.0 ++ row.0 ∷ [])) (sym (take-suc packets n blank inside))
+      (row_joins field k s (take n packets) earlier.0 packet row.0 earlier_fit fits earlier.1 row.1),
+    )
+
+pub rows_exist : (field : IsField) (k s : ℕ) (packets : List Packet) → All (Fits k s) packets
+    → ((at : ℕ) (packet : Packet) → at < length packets → IsFresh k (take at packets) (get_or packets at packet))
+    → (rows : List Packet) × StandForAll k s packets rows
+rows_exist field k s packets fit fresh =
+    let all = rows_exist_upto field k s packets fit fresh (length packets) (omega arith) in
+    (all.0, subst (λ front. StandForAll k s front all.0) (take_all (length packets) packets (omega arith)) all.1)

@@ -9,8 +9,8 @@ ghost use Rattle.linear_spec.specs.Span.{InSpan, HaveOneSpan, HasRank};
 ghost use Rattle.linear_spec.specs.Cases.{IsFresh, IsWithin, IsConflicting, IsOneCase};
 ghost use Rattle.linear_spec.specs.Rows.{StandsFor, StandForAll, IsRowOf, pivot_of, remainder_of};
 
-/// Rows that stand for packets span what the packets span; each packet is fresh after those before it, so the rank of both
-/// is their number.
+/// Rows that stand for packets span what the packets span. Each packet is fresh after those before it, so the rank of both is
+/// their number; and packets of which this holds have rows.
 pub fn rows()
     ensures none { (k s : ℕ) → StandForAll k s [] [] }
     ensures front { (k s n : ℕ) (packets rows : List Packet) → StandForAll k s packets rows → StandForAll k s (take n packets) (take n rows) }
@@ -21,6 +21,9 @@ pub fn rows()
         → HaveOneSpan k (coefficients_of packets) (coefficients_of rows) }
     ensures fresh { (k s at : ℕ) (packets rows : List Packet) (packet : Packet) → All (Fits k s) packets → StandForAll k s packets rows
         → at < length packets → IsFresh k (take at packets) (slice_index_or packets at packet) }
+    ensures some { (k s : ℕ) (packets : List Packet) → All (Fits k s) packets
+        → ((at : ℕ) (packet : Packet) → at < length packets → IsFresh k (take at packets) (slice_index_or packets at packet))
+        → (rows : List Packet) × StandForAll k s packets rows }
     ensures rank { (k s : ℕ) (packets rows : List Packet) → StandForAll k s packets rows → HasRank k (coefficients_of rows) (length rows) }
     ensures packets_rank { (k s : ℕ) (packets rows : List Packet) → All (Fits k s) packets → StandForAll k s packets rows
         → HasRank k (coefficients_of packets) (length packets) }

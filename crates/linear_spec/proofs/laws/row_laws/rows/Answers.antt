@@ -2,7 +2,7 @@ use Rattle.linear_spec.proofs.RowPlaces.{stand_none}
 use Rattle.linear_spec.proofs.RowSpans.{rows_fit, rows_same_span, rows_same_coefficients}
 use Rattle.linear_spec.proofs.Ranks.{rows_rank}
 use Rattle.linear_spec.proofs.RankBounds.{rows_at_most, pivots_differ}
-use Rattle.linear_spec.proofs.RowLaws.{stand_front, packet_fresh, packets_rank}
+use Rattle.linear_spec.proofs.RowLaws.{rows_exist, stand_front, packet_fresh, packets_rank}
 use Rattle.linear_spec.proofs.laws.row_laws.rows.Goals as goal
 
 pub returns-clause-none : goal.returns-clause-none
@@ -22,6 +22,9 @@ returns-clause-coefficients c = λ k s packets rows fit stand. rows_same_coeffic
 
 pub returns-clause-fresh : goal.returns-clause-fresh
 returns-clause-fresh c = packet_fresh c.field.ensures
+
+pub returns-clause-some : goal.returns-clause-some
+returns-clause-some c = rows_exist c.field.ensures
 
 pub returns-clause-rank : goal.returns-clause-rank
 returns-clause-rank c = rows_rank c.field.ensures
