@@ -12,7 +12,7 @@ const BLOCKS: u16 = 64;
 
 const SYMBOLS: u16 = 512;
 
-fn packet(alloc: Global, coeffs: &[u16], payload: &[u16]) -> Result<Packet, Memory>
+pub fn packet(alloc: Global, coeffs: &[u16], payload: &[u16]) -> Result<Packet, Memory>
     ensures { IfOk result (λ packet. Fits (length coeffs.now) (length payload.now) packet) }
 {
     let packet = Packet {
