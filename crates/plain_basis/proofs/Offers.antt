@@ -27,7 +27,7 @@ pub reduced_parts : (basis : Basis) (rows rows_now : List Packet) (packet row re
     → IsReduced basis rows packet reduced.coeffs reduced.payload
 reduced_parts basis rows rows_now packet row reduced sound fits same copied vector coeffs payload =
     let remainder : vector_of reduced ≡ remainder_of rows (vector_of packet) =
-        vector ∙ ap (λ r. remainder_of r (vector_of row)) same ∙ ap (λ p. remainder_of rows (vector_of p)) copied in
+    vector ∙ ap (λ r. remainder_of r (vector_of row)) same ∙ ap (λ p. remainder_of rows (vector_of p)) copied in
     let count : length reduced.coeffs ≡ basis.k = coeffs ∙ ap (λ p. length p.coeffs) copied ∙ fits.coeffs.count in
     record {
       sound = sound;
@@ -106,7 +106,7 @@ module _ (basis : Basis) (rows : List Packet) (packet : Packet) (coeffs payload 
     λ new. (fresh basis.k basis.s basis.packets rows packet reduced.sound.fit reduced.fits reduced.sound.stand).0 new (zeros none),
     λ follows. rest (sym reduced.payload_are
         ∙ (within basis.k basis.s basis.packets rows packet reduced.sound.fit reduced.fits reduced.sound.stand (zeros none)).0 follows
-        ∙ ap (λ n. replicate n 0) (sym reduced.payload_count))
+        ∙ ap (λ n. replicate n 0) (sym reduced.payload_count)),
   )
 
 module _ (k s : ℕ) (packets rows rows_now : List Packet) (packet row : Packet) (sound : IsSound k s packets rows) (fits : Fits k s packet) (same : rows_now ≡ rows) (copied : row ≡ packet) where

@@ -15,7 +15,7 @@ rank_after k front (packet ∷ packets) fresh = inr (
   refl,
   subst (λ cs. HasRankAfter k cs (coefficients_of packets) (length packets)) (map_push (λ packet. packet.coeffs) front packet)
       (rank_after k (front ++ packet ∷ []) packets (λ i d h.
-          subst (λ f. IsFresh k f (get_or packets i d)) (sym (append_assoc front (packet ∷ []) (take i packets))) (fresh (suc i) d (omega arith))))
+      subst (λ f. IsFresh k f (get_or packets i d)) (sym (append_assoc front (packet ∷ []) (take i packets))) (fresh (suc i) d (omega arith)))),
 )
 
 pub rank_of_records : (k : ℕ) (packets : List Packet) → ((i : ℕ) (d : Packet) → i < length packets → IsFresh k (take i packets) (get_or packets i d))

@@ -45,7 +45,7 @@ pub reduced_by : (vector row : Packet) (place factor : ℕ) (coeffs payload : Li
 reduced_by vector row place factor coeffs payload same pivot below factor_is coeffs_are payload_is =
     let within : place < length vector.coeffs = omega arith in
     let at : get_or (vector_of vector) (pivot_of row) 0 ≡ factor =
-        ap (λ p. get_or (vector_of vector) p 0) (sym pivot) ∙ get_or_append_left vector.coeffs vector.payload 0 place within ∙ sym factor_is in
+    ap (λ p. get_or (vector_of vector) p 0) (sym pivot) ∙ get_or_append_left vector.coeffs vector.payload 0 place within ∙ sym factor_is in
     ap (λ u. u ++ payload) coeffs_are ∙ ap (λ u. plus_scaled vector.coeffs factor row.coeffs ++ u) payload_is
     ∙ sym (append-plus_scaled factor vector.coeffs row.coeffs vector.payload row.payload (sym same))
     ∙ ap (λ c. plus_scaled (vector_of vector) c (vector_of row)) (sym at)

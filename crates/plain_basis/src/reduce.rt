@@ -46,7 +46,11 @@ fn add_row(vector: &mut Packet, factor: Gf, row: &Packet)
     ensures payload { vector.new.payload ≡ plus_scaled vector.old.payload factor.0 row.now.payload }
 {
     add_scaled(vector.coeffs.as_mut_slice(), factor, row.coeffs.as_slice());
-    add_scaled(vector.payload.as_mut_slice(), factor, row.payload.as_slice());
+    add_scaled(
+        vector.payload.as_mut_slice(),
+        factor,
+        row.payload.as_slice(),
+    );
 }
 
 /// Multiplies a vector by a factor.

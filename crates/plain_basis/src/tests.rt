@@ -1,16 +1,7 @@
 use super::*;
-use gf16::Memory;
-use linear_spec::{Packet, Reply, SymVec};
-use std::alloc::Global;
+use linear_spec::Reply;
+use solving_tests::packet;
 use std::test::Fail;
-
-fn packet(alloc: Global, coeffs: &[u16], payload: &[u16]) -> Result<Packet, Memory> {
-    Ok(Packet {
-        generation: 0,
-        coeffs: SymVec::from_slice(alloc, coeffs)?,
-        payload: SymVec::from_slice(alloc, payload)?,
-    })
-}
 
 #[test]
 fn each_packet_is_answered_by_its_case(rt: HostRuntime) -> Result<(), Fail> {
@@ -27,11 +18,11 @@ fn each_packet_is_answered_by_its_case(rt: HostRuntime) -> Result<(), Fail> {
     ];
     for (coeffs, symbol, reply) in cases {
         let offered = packet(alloc, &coeffs, &[symbol])?;
-        assert_eq!(rt; basis.offer(offered)?, reply);
+        let answer = basis.offer(offered)?;
+        assert_eq!(rt; answer, reply);
     }
     assert_eq!(rt; basis.rank(), 2);
-    let records = basis.records().as_slice();
-    assert_eq!(rt; records.len(), 2);
-    assert_eq!(rt; records[1].payload.as_slice(), [0x6300].as_slice());
+    let recorded = basis.records().get(1).ok_or("a record")?;
+    assert_eq!(rt; recorded.payload.as_slice(), [0x6300].as_slice());
     Ok(())
 }

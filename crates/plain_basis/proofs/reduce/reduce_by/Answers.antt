@@ -21,4 +21,4 @@ returns-in-Some-clause-payload c = ap length c.add_row.ensures.payload ∙ lengt
 pub returns-in_default-clause-vector : goal.returns-in_default-clause-vector
 returns-in_default-clause-vector c =
     absurd (not_all_zero c.args.row.now.coeffs c.requires.pivot
-        (subst (λ v. v ≡ replicate (length v) 0) c.as_slice.ensures c.in_default.ensures))
+    (subst (λ v. v ≡ replicate (length v) 0) c.as_slice.ensures c.in_default.ensures))

@@ -19,5 +19,5 @@ returns-clause-rank c =
     let sound = c.self.invariant in
     subst (λ b. HasRank b.k (coefficients_of b.packets) c.len.result) c.self.view_is
     (subst (HasRank inside.k (coefficients_of inside.packets.items)) (sym c.len.ensures)
-        (rank_of_records inside.k inside.packets.items
-            (λ i d h. c.rows.ensures.fresh inside.k inside.s i inside.packets.items inside.rows.items d sound.fit sound.stand h)))
+    (rank_of_records inside.k inside.packets.items
+    (λ i d h. c.rows.ensures.fresh inside.k inside.s i inside.packets.items inside.rows.items d sound.fit sound.stand h)))
