@@ -141,7 +141,7 @@ rows_exist_upto field k s packets fit fresh (suc n) within =
     let row = fresh_gives_row field k s (take n packets) earlier.0 packet earlier_fit fits earlier.1 (fresh n blank inside) in (
       earlier.0 ++ row.0 ∷ [],
       subst (λ front. StandForAll k s front (earlier.0 ++ row.0 ∷ [])) (sym (take-suc packets n blank inside))
-      (row_joins field k s (take n packets) earlier.0 packet row.0 earlier_fit fits earlier.1 row.1),
+          (row_joins field k s (take n packets) earlier.0 packet row.0 earlier_fit fits earlier.1 row.1),
     )
 
 pub rows_exist : (field : IsField) (k s : ℕ) (packets : List Packet) → All (Fits k s) packets
