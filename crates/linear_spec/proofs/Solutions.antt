@@ -1,12 +1,12 @@
 -- Blocks that solve packets solve all that the packets span, and at full rank there is one list of them. One block more
 -- solves one row more.
-use Rattle.std.proofs.Common.{◌≡◌, ℕ, zero, suc, ◌+◌, ◌<◌, ◌≤◌, List, [], ◌∷◌, ◌++◌, map, length, take, drop, get_or, set, replicate, refl, sym, ap, ap₂, ◌∙◌, subst, lit<, arith}
+use Rattle.std.proofs.Common.{◌≡◌, ℕ, zero, suc, ◌+◌, ◌<◌, List, [], ◌∷◌, ◌++◌, length, take, drop, get_or, set, replicate, sym, ap, ◌∙◌, lit<, arith}
 use Rattle.std.specs.List.{All}
 use Rattle.std.proofs.lemmas.List.{length-map, length-replicate, length_push, take_at, drop_at, ext_get_or}
-use Rattle.std.proofs.lemmas.List.Elements.{All-push, All-weaker, All-replicate, All-set}
+use Rattle.std.proofs.lemmas.List.Elements.{All-replicate, All-set}
 use Rattle.std.proofs.Math.ListN.{length-set}
-use Rattle.gf16.specs.Field.{IsSymbol, IsField, product_of}
-use Rattle.gf16.specs.Sums.{plus_scaled, scaled}
+use Rattle.gf16.specs.Field.{IsSymbol, IsField}
+use Rattle.gf16.specs.Sums.{plus_scaled}
 use Rattle.linear_spec.specs.declared.packet.Packet.{Packet}
 use Rattle.linear_spec.specs.Symbols.{AreSymbols, IsVector}
 use Rattle.linear_spec.specs.Combination.{combination_of}
