@@ -64,18 +64,18 @@ module _ (k s : ℕ) (rows : List Packet) (are : AreRows k s rows) where
       → IsSolvedFrom k s rows at (set blocks (pivot_of row) (plus_scaled (combination_of s row.coeffs blocks) 1 row.payload))
   solved_more laws at row blocks there is solved =
       let stands : StandsFor k s (take at are.packets) (take at rows) (get_or are.packets at row) row =
-          subst (StandsFor k s (take at are.packets) (take at rows) (get_or are.packets at row)) (sym is) (row_at at row there) in
+      subst (StandsFor k s (take at are.packets) (take at rows) (get_or are.packets at row)) (sym is) (row_at at row there) in
       let place = pivot_of row in
       let block = plus_scaled (combination_of s row.coeffs blocks) 1 row.payload in
       let count = solved.count in
       let pivot_below = stands.pivot_below in
       let below : place < length blocks = omega arith in
       let none : get_or blocks place [] ≡ replicate s 0 =
-          subst (λ r. get_or blocks (pivot_of r) [] ≡ replicate s 0) (sym is) (solved.unknown at row (omega arith) there) in
+      subst (λ r. get_or blocks (pivot_of r) [] ≡ replicate s 0) (sym is) (solved.unknown at row (omega arith) there) in
       let by_block : IsVector s block =
-          subst (IsVector s) (laws.first s 1 row.coeffs row.payload blocks)
-          (laws.is_vector s (1 ∷ row.coeffs) (row.payload ∷ blocks) (All-cons IsSymbol 1 row.coeffs (lit< tt) stands.fits.coeffs.symbols)
-              (All-cons (IsVector s) row.payload blocks stands.fits.payload solved.vectors)) in
+      subst (IsVector s) (laws.first s 1 row.coeffs row.payload blocks)
+      (laws.is_vector s (1 ∷ row.coeffs) (row.payload ∷ blocks) (All-cons IsSymbol 1 row.coeffs (lit< tt) stands.fits.coeffs.symbols)
+      (All-cons (IsVector s) row.payload blocks stands.fits.payload solved.vectors)) in
       record {
         count = length-set blocks place block ∙ count;
         vectors = All-set (IsVector s) blocks place block by_block solved.vectors;
@@ -83,19 +83,19 @@ module _ (k s : ℕ) (rows : List Packet) (are : AreRows k s rows) where
             let cases : (at ≡ j) ⊎ (at < j) = grind arith in
             ⊎_elim
             (λ e. subst (IsTrueTo s (set blocks place block)) (same j d e l)
-                (laws.known s place row.coeffs row.payload blocks stands.fits.coeffs.symbols stands.fits.payload solved.vectors below none stands.one_at_pivot))
+            (laws.known s place row.coeffs row.payload blocks stands.fits.coeffs.symbols stands.fits.payload solved.vectors below none stands.one_at_pivot))
             (λ later.
-                let clear : get_or (get_or rows j d).coeffs place 0 ≡ 0 =
-                    subst (λ r. get_or (get_or rows j d).coeffs (pivot_of r) 0 ≡ 0) (sym (same at d refl there)) (cleared_at at j d later l) in
-                laws.kept s place (get_or rows j d).coeffs block blocks below none clear ∙ solved.true_to j d (omega arith) l)
+            let clear : get_or (get_or rows j d).coeffs place 0 ≡ 0 =
+            subst (λ r. get_or (get_or rows j d).coeffs (pivot_of r) 0 ≡ 0) (sym (same at d refl there)) (cleared_at at j d later l) in
+            laws.kept s place (get_or rows j d).coeffs block blocks below none clear ∙ solved.true_to j d (omega arith) l)
             cases;
         unknown = λ j d h l.
             let pivot = pivot_of (get_or rows j d) in
             let differ : pivot ≢ place = λ e.
-                let clear : get_or row.coeffs pivot 0 ≡ 0 =
-                    subst (λ r. get_or r.coeffs pivot 0 ≡ 0) (sym (same at d refl there)) (cleared_at j at d h there) in
-                let zero_is_one : ◌≡◌ {A = ℕ} 0 1 = sym clear ∙ ap (λ p. get_or row.coeffs p 0) e ∙ stands.one_at_pivot in
-                absurd (omega arith) in
+            let clear : get_or row.coeffs pivot 0 ≡ 0 =
+            subst (λ r. get_or r.coeffs pivot 0 ≡ 0) (sym (same at d refl there)) (cleared_at j at d h there) in
+            let zero_is_one : ◌≡◌ {A = ℕ} 0 1 = sym clear ∙ ap (λ p. get_or row.coeffs p 0) e ∙ stands.one_at_pivot in
+            absurd (omega arith) in
             get_or-set_other blocks place pivot block [] differ ∙ solved.unknown j d (omega arith) l;
       }
     where
@@ -125,7 +125,7 @@ module _ (k s : ℕ) (rows : List Packet) (are : AreRows k s rows) where
       let count = stands.fits.coeffs.count in
       let below = stands.pivot_below in
       let e : ◌≡◌ {A = ℕ} 0 1 =
-          sym (get_or-replicate (length coeffs) place 0 0 (omega (arith, ap length same))) ∙ ap (λ v. get_or v place 0) (sym none ∙ same) ∙ stands.one_at_pivot in
+      sym (get_or-replicate (length coeffs) place 0 0 (omega (arith, ap length same))) ∙ ap (λ v. get_or v place 0) (sym none ∙ same) ∙ stands.one_at_pivot in
       absurd (omega arith)
 
   pub solved_step : HasBlockLaws → (at pivot : ℕ) (row : Packet) (coeffs block : List ℕ) (blocks after : List (List ℕ)) → 0 < at → at ≤ length rows
@@ -136,7 +136,7 @@ module _ (k s : ℕ) (rows : List Packet) (are : AreRows k s rows) where
       let stands = row_stands at row some most is in
       let before : at ≡ suc (at - 1) = omega arith in
       let block_is : block ≡ plus_scaled (combination_of s row.coeffs blocks) 1 row.payload =
-          told ∙ ap (λ n. plus_scaled (combination_of n row.coeffs blocks) 1 row.payload) stands.fits.payload.count in
+      told ∙ ap (λ n. plus_scaled (combination_of n row.coeffs blocks) 1 row.payload) stands.fits.payload.count in
       subst (IsSolvedFrom k s rows (at - 1))
       (sym (written ∙ ap (λ p. set blocks p block) (first ∙ ap first_nonzero same) ∙ ap (set blocks (pivot_of row)) block_is))
       (solved_more laws (at - 1) row blocks (omega arith) is (subst (λ n. IsSolvedFrom k s rows n blocks) before solved))

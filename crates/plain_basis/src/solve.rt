@@ -14,7 +14,12 @@ use std::alloc::Global;
 
 /// The k blocks of s symbols that solve rows, which stand for some packets. A column that is no row's pivot gets a block of
 /// zeros.
-pub fn solve_rows(alloc: Global, k: u16, s: u16, rows: &List<Packet>) -> Result<List<SymVec>, Memory>
+pub fn solve_rows(
+    alloc: Global,
+    k: u16,
+    s: u16,
+    rows: &List<Packet>,
+) -> Result<List<SymVec>, Memory>
     requires { AreRows k s rows.now.items }
     ensures { IfOk result (λ blocks. Solve k s rows.now.items blocks.items) }
 {

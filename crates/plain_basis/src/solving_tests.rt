@@ -1,14 +1,15 @@
-ghost use Rattle.std.specs.Prelude.{◌≡◌, length, IfOk};
+ghost use Rattle.std.specs.Prelude.{◌≡◌, ◌<◌, length, IfOk};
 ghost use Rattle.std.specs.List.{All};
 ghost use Rattle.linear_spec.specs.Packet.{Fits};
 
 use super::*;
 use gf16::Memory;
-use linear_spec::{combine, List, Packet, SymVec};
+use linear_spec::{List, Packet, SymVec, combine};
 use std::alloc::Global;
 use std::test::Fail;
 
 const BLOCKS: u16 = 64;
+
 const SYMBOLS: u16 = 512;
 
 pub fn packet(alloc: Global, coeffs: &[u16], payload: &[u16]) -> Result<Packet, Memory>
@@ -23,29 +24,41 @@ pub fn packet(alloc: Global, coeffs: &[u16], payload: &[u16]) -> Result<Packet, 
     Ok(packet)
 }
 
-/// Symbols of a linear congruential generator.
+/// Writes symbols of a linear congruential generator.
+fn randomize(symbols: &mut [u16], state: &mut u32) {
+    for symbol in symbols.iter_mut() {
+        *state = state.wrapping_mul(1_664_525).wrapping_add(1_013_904_223);
+        *symbol = (*state >> 16) as u16;
+    }
+}
+
 fn random_symbols(alloc: Global, len: u16, state: &mut u32) -> Result<SymVec, Memory>
     ensures { IfOk result (λ symbols. length symbols ≡ len) }
 {
     let mut symbols = SymVec::zeros(alloc, len as usize)?;
-    for symbol in symbols.as_mut_slice().iter_mut() {
-        *state = state.wrapping_mul(1_664_525).wrapping_add(1_013_904_223);
-        *symbol = (*state >> 16) as u16;
-    }
+    randomize(symbols.as_mut_slice(), state);
     Ok(symbols)
 }
 
-/// Packets of one block each.
+/// A packet of one block alone.
+fn unit_packet(alloc: Global, block: u16, state: &mut u32) -> Result<Packet, Memory>
+    requires { block < 64 }
+    ensures { IfOk result (λ packet. Fits 64 512 packet) }
+{
+    let mut unit = SymVec::zeros(alloc, BLOCKS as usize)?;
+    unit.as_mut_slice()[block as usize] = 1;
+    let payload = random_symbols(alloc, SYMBOLS, state)?;
+    packet(alloc, unit.as_slice(), payload.as_slice())
+}
+
 fn source_of(alloc: Global, state: &mut u32) -> Result<List<Packet>, Memory>
     ensures count { IfOk result (λ source. length source.items ≡ 64) }
     ensures fit { IfOk result (λ source. All (Fits 64 512) source.items) }
 {
     let mut source = List::new(alloc);
     for block in 0..BLOCKS {
-        let mut unit = SymVec::zeros(alloc, BLOCKS as usize)?;
-        unit.as_mut_slice()[block as usize] = 1;
-        let payload = random_symbols(alloc, SYMBOLS, state)?;
-        source.push(packet(alloc, unit.as_slice(), payload.as_slice())?)?;
+        let packet = unit_packet(alloc, block, state)?;
+        source.push(packet)?;
     }
     Ok(source)
 }
@@ -71,8 +84,14 @@ fn two_packets_solve_to_their_blocks(rt: HostRuntime) -> Result<(), Fail> {
     assert!(rt; basis.rank() == 2);
     let blocks = basis.solve()?;
     assert_eq!(rt; blocks.len(), 2);
-    assert_eq!(rt; blocks.get(0).ok_or("a block")?.as_slice(), [0x6162].as_slice());
-    assert_eq!(rt; blocks.get(1).ok_or("a block")?.as_slice(), [0x6300].as_slice());
+    assert_eq!(rt;
+        blocks.get(0).ok_or("a block")?.as_slice(),
+        [0x6162].as_slice()
+    );
+    assert_eq!(rt;
+        blocks.get(1).ok_or("a block")?.as_slice(),
+        [0x6300].as_slice()
+    );
     Ok(())
 }
 

@@ -12,5 +12,5 @@ told xs (Some place) found = (is_first xs place found.0 found.1 found.2, found.0
 pub returns : goal.returns
 returns c =
     let plain : MatchOption c.position.result ((k : ℕ) → k < length c.args.symbols.now → get_or c.args.symbols.now k 0 ≡ 0)
-        (λ i. (i < length c.args.symbols.now) × (get_or c.args.symbols.now i 0 ≢ 0) × ((k : ℕ) → k < i → get_or c.args.symbols.now k 0 ≡ 0)) = search rules in
+    (λ i. (i < length c.args.symbols.now) × (get_or c.args.symbols.now i 0 ≢ 0) × ((k : ℕ) → k < i → get_or c.args.symbols.now k 0 ≡ 0)) = search rules in
     told c.args.symbols.now c.position.result plain

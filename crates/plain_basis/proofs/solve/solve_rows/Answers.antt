@@ -39,5 +39,5 @@ pub loop-at-preserved : goal.loop-at-preserved
 loop-at-preserved c =
     absurd
     (has_pivot c.args.k c.args.s c.as_slice-rows.result.now
-        (rows_of c.args.k c.args.s c.as_slice-rows.result.now c.args.rows.now.items c.as_slice-rows.ensures c.requires) c.loop-at.at
-        c.index-rows-at.result c.as_slice.result.now (omega arith) (omega arith) c.index-rows-at.is c.as_slice.ensures c.in_default.ensures)
+    (rows_of c.args.k c.args.s c.as_slice-rows.result.now c.args.rows.now.items c.as_slice-rows.ensures c.requires) c.loop-at.at
+    c.index-rows-at.result c.as_slice.result.now (omega arith) (omega arith) c.index-rows-at.is c.as_slice.ensures c.in_default.ensures)

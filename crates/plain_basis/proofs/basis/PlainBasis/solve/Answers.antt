@@ -13,8 +13,8 @@ returns-clause-solves c =
     let sound = c.self.invariant in
     subst (λ basis. IfOk c.solve_rows.result (λ blocks. Solve basis.k basis.s basis.packets blocks.items)) c.self.view_is
     (IfOk-weaker c.solve_rows.result (λ blocks. Solve b.k b.s b.rows.items blocks.items) (λ blocks. Solve b.k b.s b.packets.items blocks.items)
-        (λ blocks solve. c.solving.ensures.rows b.k b.s b.packets.items b.rows.items blocks.items sound.fit sound.stand solve)
-        c.solve_rows.ensures)
+    (λ blocks solve. c.solving.ensures.rows b.k b.s b.packets.items b.rows.items blocks.items sound.fit sound.stand solve)
+    c.solve_rows.ensures)
 
 -- and nothing else does
 pub returns-clause-only : goal.returns-clause-only
@@ -24,7 +24,7 @@ returns-clause-only c =
     let full = subst (λ basis. length basis.packets ≡ basis.k) (sym c.self.view_is) c.requires.full in
     subst (λ basis. IfOk c.solve_rows.result (λ blocks. IsOnlySolution basis.k basis.s basis.packets blocks.items)) c.self.view_is
     (IfOk-weaker c.solve_rows.result (λ blocks. Solve b.k b.s b.rows.items blocks.items) (λ blocks. IsOnlySolution b.k b.s b.packets.items blocks.items)
-        (λ blocks solve others too.
-            c.solving.ensures.only b.k b.s b.packets.items b.rows.items blocks.items others sound.fit sound.stand full
-            (c.solving.ensures.rows b.k b.s b.packets.items b.rows.items blocks.items sound.fit sound.stand solve) too)
-        c.solve_rows.ensures)
+    (λ blocks solve others too.
+    c.solving.ensures.only b.k b.s b.packets.items b.rows.items blocks.items others sound.fit sound.stand full
+    (c.solving.ensures.rows b.k b.s b.packets.items b.rows.items blocks.items sound.fit sound.stand solve) too)
+    c.solve_rows.ensures)
