@@ -3,4 +3,7 @@ use Rattle.plain_basis.proofs.tests.each_packet_is_answered_by_its_case.Given as
 
 -- the basis keeps its lengths
 abbrev pub invariant-loop-coeffs : goal.invariant-loop-coeffs
-invariant-loop-coeffs l = (l.basis.k ≡ 2) × (l.basis.s ≡ 1)
+invariant-loop-coeffs g l = record {
+  k : l.basis.k ≡ 2;
+  s : l.basis.s ≡ 1;
+}
