@@ -7,6 +7,7 @@ pub mod Ranks
 pub mod RowLaws
 pub mod RowPlaces
 pub mod RowSpans
+pub mod RowsFill
 pub mod Solutions
 pub mod SpanChanges
 pub mod SpanDecides

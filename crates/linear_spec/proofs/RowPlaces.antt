@@ -50,6 +50,10 @@ module _ (k s : ℕ) (packets rows : List Packet) (stand : StandForAll k s packe
   pub pivots_below : All (λ row. pivot_of row < k) rows
   pivots_below i d h = (row_at i d h).pivot_below
 
+  -- where a vector is 0 at the pivots, so are its first k symbols
+  pub clear_below : (v : List ℕ) → All (λ row. get_or v (pivot_of row) 0 ≡ 0) rows → All (λ row. get_or (take k v) (pivot_of row) 0 ≡ 0) rows
+  clear_below v clear i d h = get_or-take k v (pivot_of (get_or rows i d)) 0 (pivots_below i d h) ∙ clear i d h
+
   -- a vector's symbol at a place below k is a coefficient
   at_coefficient : (packet : Packet) (place : ℕ) → Fits k s packet → place < k → get_or (vector_of packet) place 0 ≡ get_or packet.coeffs place 0
   at_coefficient packet place fits h =

@@ -2,12 +2,14 @@
 -- k, s: the numbers of coefficients and of payload symbols of each packet. row: what has the form of a packet. column: the
 -- place of a coefficient, below k. pivot: the column of a row's first coefficient that is not 0. remainder: what rows leave
 -- of a vector. missing: a column below k that is the pivot of no row.
-use Rattle.std.specs.Prelude.{◌≡◌, ◌≢◌, ℕ, ◌+◌, ◌<◌, List, [], ◌∷◌, length, take, drop, not, ◌==◌, slice_index, slice_index_or}
+use Rattle.std.specs.Prelude.{◌≡◌, ◌≢◌, ℕ, ◌+◌, ◌<◌, List, [], ◌∷◌, ◌++◌, length, map, take, drop, not, ◌==◌, slice_index, slice_index_or}
 use Rattle.std.specs.List.{All, position_or_len, filter, list_any, range_with_len}
 use Rattle.gf16.specs.Field.{IsSymbol, product_of}
 use Rattle.gf16.specs.Sums.{plus_scaled, scaled}
 use Rattle.linear_spec.specs.declared.packet.Packet.{Packet}
-use Rattle.linear_spec.specs.Packet.{Fits, vector_of, vectors_of}
+use Rattle.linear_spec.specs.Symbols.{IsVector}
+use Rattle.linear_spec.specs.UnitVector.{unit_of}
+use Rattle.linear_spec.specs.Packet.{Fits, vector_of, vectors_of, coefficients_of}
 use Rattle.linear_spec.specs.Span.{InSpan}
 
 -- the place of the first symbol that is not 0, or the number of symbols where all are
@@ -40,6 +42,11 @@ pub record StandForAll (k s : ℕ) (packets rows : List Packet) : Type 0 where
 -- the columns below k that are the pivot of no row, rising
 abbrev pub missing_columns_of : ℕ → List Packet → List ℕ
 missing_columns_of k rows = filter (λ column. not (list_any (λ row. pivot_of row == column) rows)) (range_with_len 0 k)
+
+-- the rows' coefficients and the unit vectors of the missing columns together span every vector of k symbols
+abbrev pub SpanAllWithMissing : ℕ → List Packet → Type 0
+SpanAllWithMissing k rows = (vector : List ℕ) → IsVector k vector
+    → InSpan k (coefficients_of rows ++ map (unit_of k) (missing_columns_of k rows)) vector
 
 -- a vector reduced by rows, row after row: the row times the symbol at its pivot is subtracted, which is to add it
 abbrev pub remainder_of : List Packet → List ℕ → List ℕ

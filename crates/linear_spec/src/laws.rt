@@ -8,7 +8,7 @@ mod span_laws;
 ghost use Rattle.std.specs.Prelude.{◌≡◌, ◌*◌, ◌%◌, ℕ, List, length};
 ghost use Rattle.linear_spec.specs.Symbols.{AreBytes, AreSymbols, be_bytes_of, symbols_of};
 
-pub use row_calls::{rows_rank, rows_span};
+pub use row_calls::{rows_fill, rows_rank, rows_span};
 pub use row_laws::{decision, one_case, ranks, reduction, rows};
 pub use solving_laws::solving;
 pub use span_calls::{packet_fits, span_replace, span_sum};

@@ -2,6 +2,5 @@ pub mod BackSubstitution
 pub mod FirstNonzero
 pub mod Offers
 pub mod PlusScaled
-pub mod RecordRank
 pub mod Reduction
 pub mod Scaled

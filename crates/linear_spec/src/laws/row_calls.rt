@@ -3,7 +3,7 @@ ghost use Rattle.std.specs.Prelude.{◌+◌, ℕ, length};
 ghost use Rattle.std.specs.List.{All};
 ghost use Rattle.linear_spec.specs.Packet.{Fits, vectors_of, coefficients_of};
 ghost use Rattle.linear_spec.specs.Span.{HaveOneSpan, HasRank};
-ghost use Rattle.linear_spec.specs.Rows.{StandForAll};
+ghost use Rattle.linear_spec.specs.Rows.{StandForAll, SpanAllWithMissing};
 
 use crate::{List, Packet};
 
@@ -21,6 +21,14 @@ pub fn rows_span(packets: &List<Packet>, rows: &List<Packet>)
 pub fn rows_rank(packets: &List<Packet>, rows: &List<Packet>)
     ensures { (k s : ℕ) → StandForAll k s packets.now.items rows.now.items
         → HasRank k (coefficients_of rows.now.items) (length rows.now.items) }
+{
+    gf16::laws::field();
+}
+
+/// The coefficient lists of rows that stand for the packets, with the unit vectors of the columns that are the pivot of no
+/// row, span every list of as many symbols as a packet has coefficients.
+pub fn rows_fill(packets: &List<Packet>, rows: &List<Packet>)
+    ensures { (k : ℕ) (s : ℕ) → StandForAll k s packets.now.items rows.now.items → SpanAllWithMissing k rows.now.items }
 {
     gf16::laws::field();
 }

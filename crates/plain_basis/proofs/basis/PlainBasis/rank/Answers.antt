@@ -1,7 +1,6 @@
 use Rattle.std.proofs.Common.{sym, subst, arith}
 use Rattle.linear_spec.specs.Packet.{coefficients_of}
 use Rattle.linear_spec.specs.Span.{HasRank}
-use Rattle.plain_basis.proofs.RecordRank.{rank_of_records}
 use Rattle.plain_basis.proofs.basis.PlainBasis.rank.Goals as goal
 
 pub overflow_cast-result : goal.overflow_cast-result
@@ -19,5 +18,4 @@ returns-clause-rank c =
     let sound = c.self.invariant in
     subst (λ b. HasRank b.k (coefficients_of b.packets) c.len.result) c.self.view_is
     (subst (HasRank inside.k (coefficients_of inside.packets.items)) (sym c.len.ensures)
-    (rank_of_records inside.k inside.packets.items
-    (λ i d h. c.rows.ensures.fresh inside.k inside.s i inside.packets.items inside.rows.items d sound.fit sound.stand h)))
+    (c.rows.ensures.packets_rank inside.k inside.s inside.packets.items inside.rows.items sound.fit sound.stand))
