@@ -4,6 +4,7 @@ pub mod PacketLaws
 pub mod RankBounds
 pub mod RankSpans
 pub mod Ranks
+pub mod Reception
 pub mod RowLaws
 pub mod RowPlaces
 pub mod RowSpans

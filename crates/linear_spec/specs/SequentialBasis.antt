@@ -39,6 +39,18 @@ recorded offered (Innovative at) = offered ∷ []
 recorded offered (NotInnovative at) = []
 recorded offered (Conflicting at) = []
 
+-- packets that pass are offered in turn from a front on: each has its reply, and these are the packets kept at the end
+abbrev pub IsReceivedAfter : ℕ → ℕ → List Packet → List Packet → List Reply → List Packet → Type 0
+IsReceivedAfter k s front [] [] kept = kept ≡ front
+IsReceivedAfter k s front [] (reply ∷ replies) kept = ⊥
+IsReceivedAfter k s front (packet ∷ packets) [] kept = ⊥
+IsReceivedAfter k s front (packet ∷ packets) (reply ∷ replies) kept =
+    IsCaseReply k s front packet reply × IsReceivedAfter k s (front ++ recorded packet reply) packets replies kept
+
+-- the same from the start on
+abbrev pub IsReceived : ℕ → ℕ → List Packet → List Reply → List Packet → Type 0
+IsReceived k s packets replies kept = IsReceivedAfter k s [] packets replies kept
+
 -- an offer by a caller, as the caller's call of this number
 pub record IsOffer (equations : Equations) (before : List Record) (caller call : ℕ) (packet : Packet) (reply : Reply) (after : List Record) : Type 0 where
   pub reply_is : IsReply equations (packets_of before) packet reply
