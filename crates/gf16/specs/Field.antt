@@ -18,7 +18,7 @@ abbrev pub total_of : List ℕ → ℕ
 total_of [] = 0
 total_of (x ∷ xs) = sum_of x (total_of xs)
 
--- a times x: a shifted left by one bit and, where bit 16 comes out, the polynomial added
+-- a times x: twice a, less the polynomial where that has a bit 16 (to subtract is to add)
 unfoldable pub times_x : ℕ → ℕ
 times_x a = let shifted = a * 2 in if bit_at shifted 16 == 1 then sum_of shifted 0x1100B else shifted
 
@@ -35,7 +35,7 @@ bit_places = range_with_len 0 16
 unfoldable pub set_bits : ℕ → List ℕ
 set_bits b = filter (λ i. bit_at b i == 1) bit_places
 
--- the product of two symbols: the sum, over the set bits i of b, of a multiplied i times by x
+-- the product of two symbols: for each place i where b has a bit, a times x^i, all of these added up
 unfoldable pub product_of : ℕ → ℕ → ℕ
 product_of a b = total_of (map (times_x_power a) (set_bits b))
 

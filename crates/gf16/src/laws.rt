@@ -29,13 +29,13 @@ pub fn mul_distributes(a: Gf, b: Gf, c: Gf)
     ensures { product_of a.0 (sum_of b.0 c.0) ≡ sum_of (product_of a.0 b.0) (product_of a.0 c.0) }
 {}
 
-/// Where a is not 0, a times its inverse is 1, and a has no other inverse.
+/// Every a but 0 has one inverse, and no other.
 #[tactic(auto, using(crate::proofs::Inverses::one_inverse))]
 pub fn inverse(a: Gf)
     ensures { a.0 ≢ 0 → HasOneInverse a.0 }
 {}
 
-/// Where a * b is 0, a or b is 0.
+/// A product is 0 only where one of its factors is.
 #[tactic(auto, using(crate::proofs::Inverses::zero_factor))]
 pub fn no_zero_divisors(a: Gf, b: Gf)
     ensures { product_of a.0 b.0 ≡ 0 → (a.0 ≡ 0) ⊎ (b.0 ≡ 0) }

@@ -1,5 +1,5 @@
 -- Packets received in turn: their rank is the number of those that are kept, and there is only one way.
-use Rattle.std.proofs.Common.{◌≡◌, ℕ, suc, List, [], ◌∷◌, ◌++◌, length, refl, sym, ap, ◌∙◌, subst, lit<, arith}
+use Rattle.std.proofs.Common.{◌≡◌, ◌⊎◌, inl, inr, ℕ, suc, List, [], ◌∷◌, ◌++◌, length, refl, sym, ap, ◌∙◌, subst, lit<, arith}
 use Rattle.std.specs.List.{All}
 use Rattle.std.proofs.lemmas.List.{append-nil, append_assoc, map_push, length_push}
 use Rattle.std.proofs.lemmas.List.Elements.{All-nil, All-push, All-head, All-tail, All-weaker}
@@ -10,13 +10,13 @@ use Rattle.linear_spec.specs.declared.reply.Reply.TheVariants.{FailedCheck, Inno
 use Rattle.linear_spec.specs.Symbols.{IsVector}
 use Rattle.linear_spec.specs.Span.{InSpan, HaveOneSpan, HasRank}
 use Rattle.linear_spec.specs.Packet.{Fits, coefficients_of}
-use Rattle.linear_spec.specs.Cases.{IsFresh}
+use Rattle.linear_spec.specs.Cases.{IsFresh, IsWithin, IsConflicting}
 use Rattle.linear_spec.specs.SequentialBasis.{IsCaseReply, IsReceived, IsReceivedAfter, recorded}
 use Rattle.linear_spec.proofs.VectorSums.{plus_self}
 use Rattle.linear_spec.proofs.SpanLaws.{span-zero, span-closed, span-grows}
 use Rattle.linear_spec.proofs.SpanChanges.{span-members}
 use Rattle.linear_spec.proofs.RowSpans.{same_span_push, IsVector-coefficients}
-use Rattle.linear_spec.proofs.SpanDecides.{span_decides, within_follows}
+use Rattle.linear_spec.proofs.SpanDecides.{span_decides, within_follows, one_case}
 use Rattle.linear_spec.proofs.Ranks.{rank_more}
 
 received_more_after : (k s : ℕ) (front packets : List Packet) (replies : List Reply) (kept : List Packet) (packet : Packet) (reply : Reply)
@@ -165,3 +165,22 @@ module _ (field : IsField) (k s : ℕ) where
       → (answers ≡ replies) × (others ≡ kept)
   received_one packets replies kept answers others fit one two =
       received_one_after [] packets replies kept answers others (All-nil (Fits k s)) fit one two
+
+  some_reply : (front : List Packet) (packet : Packet) → IsFresh k front packet ⊎ (IsWithin k s front packet ⊎ IsConflicting k s front packet)
+      → (reply : Reply) × IsCaseReply k s front packet reply
+  some_reply front packet (inl fresh) = (Innovative (length front), (fresh, refl))
+  some_reply front packet (inr (inl within)) = (NotInnovative (length front), (within, refl))
+  some_reply front packet (inr (inr conflict)) = (Conflicting (length front), (conflict, refl))
+
+  received_some_after : (front packets : List Packet) → All (Fits k s) front → All (Fits k s) packets
+      → (replies : List Reply) × (kept : List Packet) × IsReceivedAfter k s front packets replies kept
+  received_some_after front [] front_fit fit = ([], front, refl)
+  received_some_after front (p ∷ ps) front_fit fit =
+      let fits = All-head (Fits k s) p ps fit in
+      let reply = some_reply front p (one_case field k s front p front_fit fits).some in
+      let rest = received_some_after (front ++ recorded p reply.0) ps (fit_more k s front p reply.0 front_fit fits) (All-tail (Fits k s) p ps fit) in
+      (reply.0 ∷ rest.0, rest.1, (reply.1, rest.2))
+
+  pub received_some : (packets : List Packet) → All (Fits k s) packets
+      → (replies : List Reply) × (kept : List Packet) × IsReceived k s packets replies kept
+  received_some packets fit = received_some_after [] packets (All-nil (Fits k s)) fit

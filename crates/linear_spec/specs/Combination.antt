@@ -9,7 +9,7 @@ use Rattle.gf16.specs.Sums.{dot_of}
 abbrev pub column_of : ℕ → List (List ℕ) → List ℕ
 column_of place vectors = map (λ vector. slice_index vector place) vectors
 
--- the combination of vectors of n symbols: at each place the sum of coefficient i times the symbol of vector i there.
--- For no vectors it is the zero vector
+-- the combination of vectors of n symbols: each place has the products of the coefficients and the place's column, added
+-- up. With no vectors all places are 0
 unfoldable pub combination_of : ℕ → List ℕ → List (List ℕ) → List ℕ
 combination_of n coefficients vectors = map (λ place. dot_of coefficients (column_of place vectors)) (range_with_len 0 n)

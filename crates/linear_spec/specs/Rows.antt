@@ -1,7 +1,7 @@
 -- Rows in echelon form: a row stands for a packet after those before it.
 -- k, s: the numbers of coefficients and of payload symbols of each packet. row: what has the form of a packet. column: the
 -- place of a coefficient, below k. pivot: the column of a row's first coefficient that is not 0. remainder: what rows leave
--- of a vector. missing: a column below k that is the pivot of no row.
+-- of a vector. missing: a column below k at which no row has its pivot.
 use Rattle.std.specs.Prelude.{◌≡◌, ◌≢◌, ℕ, ◌+◌, ◌<◌, List, [], ◌∷◌, ◌++◌, length, map, take, drop, not, ◌==◌, slice_index, slice_index_or}
 use Rattle.std.specs.List.{All, position_or_len, filter, list_any, range_with_len}
 use Rattle.gf16.specs.Field.{IsSymbol, product_of}
@@ -20,9 +20,8 @@ first_nonzero symbols = position_or_len (λ symbol. not (symbol == 0)) symbols
 abbrev pub pivot_of : Packet → ℕ
 pivot_of row = first_nonzero row.coeffs
 
--- a row stands for a packet after earlier packets and their rows: some nonzero multiple of the packet, added to the row,
--- lies in the span of the earlier packets; the row's first coefficient that is not 0 is 1, at its pivot; and the row is 0
--- at the pivots of the earlier rows
+-- a row stands for a packet after earlier packets and their rows: it differs from a multiple of the packet, not 0 times it,
+-- by a vector of the earlier packets' span; it has a 1 at its pivot; and it has a 0 at each pivot of an earlier row
 pub record StandsFor (k s : ℕ) (packets rows : List Packet) (packet row : Packet) : Type 0 where
   pub fits : Fits k s row
   pub multiple : ℕ
@@ -39,7 +38,7 @@ pub record StandForAll (k s : ℕ) (packets rows : List Packet) : Type 0 where
   pub each : (i : ℕ) (packet row : Packet) → i < length packets
       → StandsFor k s (take i packets) (take i rows) (slice_index_or packets i packet) (slice_index_or rows i row)
 
--- the columns below k that are the pivot of no row, rising
+-- the columns below k at which no row has its pivot, rising
 abbrev pub missing_columns_of : ℕ → List Packet → List ℕ
 missing_columns_of k rows = filter (λ column. not (list_any (λ row. pivot_of row == column) rows)) (range_with_len 0 k)
 
@@ -48,7 +47,8 @@ abbrev pub SpanAllWithMissing : ℕ → List Packet → Type 0
 SpanAllWithMissing k rows = (vector : List ℕ) → IsVector k vector
     → InSpan k (coefficients_of rows ++ map (unit_of k) (missing_columns_of k rows)) vector
 
--- a vector reduced by rows, row after row: the row times the symbol at its pivot is subtracted, which is to add it
+-- a vector reduced by rows, one after the other: from what is left so far, the row times the symbol that is left at the
+-- row's pivot is subtracted, which is to add it
 abbrev pub remainder_of : List Packet → List ℕ → List ℕ
 remainder_of [] vector = vector
 remainder_of (row ∷ rows) vector = remainder_of rows (plus_scaled vector (slice_index vector (pivot_of row)) (vector_of row))

@@ -51,7 +51,7 @@ IsReceivedAfter k s front (packet ∷ packets) (reply ∷ replies) kept =
 abbrev pub IsReceived : ℕ → ℕ → List Packet → List Reply → List Packet → Type 0
 IsReceived k s packets replies kept = IsReceivedAfter k s [] packets replies kept
 
--- an offer by a caller, as the caller's call of this number
+-- an offer by a caller, with the number of this call; that the numbers count up is a matter of whole runs
 pub record IsOffer (equations : Equations) (before : List Record) (caller call : ℕ) (packet : Packet) (reply : Reply) (after : List Record) : Type 0 where
   pub reply_is : IsReply equations (packets_of before) packet reply
   pub after_is : after ≡ before ++ recorded (record { caller = caller; call = call; packet = packet }) reply

@@ -5,7 +5,7 @@ use Rattle.std.specs.Prelude.{◌≡◌, ◌⊎◌, ◌↔◌, ℕ, suc, List, [
 use Rattle.linear_spec.specs.Symbols.{IsVector}
 use Rattle.linear_spec.specs.Combination.{combination_of}
 
--- some list of as many symbols combines the vectors to this one
+-- this one is a combination of the vectors, with one coefficient for each of them
 pub record InSpan (n : ℕ) (vectors : List (List ℕ)) (vector : List ℕ) : Type 0 where
   pub coefficients : List ℕ
   pub are_symbols : IsVector (length vectors) coefficients
@@ -15,13 +15,13 @@ pub record InSpan (n : ℕ) (vectors : List (List ℕ)) (vector : List ℕ) : Ty
 abbrev pub HaveOneSpan : ℕ → List (List ℕ) → List (List ℕ) → Type 0
 HaveOneSpan n vectors others = (vector : List ℕ) → InSpan n vectors vector ↔ InSpan n others vector
 
--- r of the vectors do not lie in the span of those before them, where others stand before all
+-- going through the list, with others before all of it: how many vectors are no combination of the earlier ones
 abbrev pub HasRankAfter : ℕ → List (List ℕ) → List (List ℕ) → ℕ → Type 0
 HasRankAfter n before [] r = r ≡ 0
 HasRankAfter n before (vector ∷ vectors) r =
     (InSpan n before vector × HasRankAfter n (before ++ vector ∷ []) vectors r)
     ⊎ ((¬ InSpan n before vector) × (q : ℕ) × (r ≡ suc q) × HasRankAfter n (before ++ vector ∷ []) vectors q)
 
--- the rank: the number of members that do not lie in the span of the members before them
+-- the rank: going through the list from its start, how many vectors are no combination of the earlier ones
 abbrev pub HasRank : ℕ → List (List ℕ) → ℕ → Type 0
 HasRank n vectors r = HasRankAfter n [] vectors r

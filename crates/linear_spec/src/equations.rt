@@ -2,8 +2,7 @@ use crate::SymVec;
 
 /// The equations of a ticket, which packets are tested by: T checks of G generations of K blocks of S symbols.
 ///
-/// The weights are T times S symbols, check after check. The sums are G times T times K symbols: that of check t for block i
-/// of generation g stands at (g * T + t) * K + i.
+/// The weights stand check by check, S symbols for each. The sums stand by generation, then by check, then by block.
 #[derive(Debug, Drop)]
 pub struct Equations {
     /// T.

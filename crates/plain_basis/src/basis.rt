@@ -1,4 +1,5 @@
 ghost use Rattle.std.specs.Prelude.{◌≡◌, ◌++◌, [], length, IfOk, OnErr};
+ghost use Rattle.std.specs.List.{All};
 ghost use Rattle.linear_spec.specs.Packet.{Fits, coefficients_of};
 ghost use Rattle.linear_spec.specs.SequentialBasis.{IsCaseReply, recorded};
 ghost use Rattle.linear_spec.specs.Solving.{Solve};
@@ -13,7 +14,7 @@ use std::alloc::Global;
 use std::marker::Model;
 
 /// The basis of one generation: packets of K coefficients and S payload symbols, each of which told something new when it
-/// was recorded. Beside each it keeps a row, which a packet is reduced by.
+/// was recorded. Beside each it keeps a row, which a packet is reduced by. No packet's generation is looked at.
 #[derive(Debug, Drop)]
 pub struct PlainBasis {
     alloc: Global,
@@ -92,7 +93,8 @@ impl PlainBasis {
 
     /// The packets that were recorded, in order.
     pub fn records(&self) -> &List<Packet>
-        ensures { result.now.items ≡ self.now.packets }
+        ensures items { result.now.items ≡ self.now.packets }
+        ensures fit { All (Fits self.now.k self.now.s) self.now.packets }
     {
         &self.packets
     }

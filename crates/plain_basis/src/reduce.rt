@@ -9,7 +9,7 @@ ghost use Rattle.linear_spec.specs.Rows.{pivot_of, first_nonzero, remainder_of};
 use gf16::Gf;
 use linear_spec::{List, Packet};
 
-/// Reduces a vector by rows of its lengths, row after row. Takes the time of as many symbols as the rows have.
+/// Reduces a vector by rows of its lengths, row after row.
 pub fn reduce(vector: &mut Packet, rows: &List<Packet>)
     requires fit { All (Fits (length vector.old.coeffs) (length vector.old.payload)) rows.now.items }
     requires pivots { All (λ row. pivot_of row < length vector.old.coeffs) rows.now.items }

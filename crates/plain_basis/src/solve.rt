@@ -12,8 +12,7 @@ use gf16::{Gf, Memory};
 use linear_spec::{List, Packet, SymVec};
 use std::alloc::Global;
 
-/// The k blocks of s symbols that solve rows, which stand for some packets. A column that is no row's pivot gets a block of
-/// zeros.
+/// k blocks of s symbols that solve rows, which stand for some packets.
 pub fn solve_rows(
     alloc: Global,
     k: u16,

@@ -7,13 +7,15 @@ ghost use Rattle.linear_spec.specs.Packet.{Fits, coefficients_of};
 ghost use Rattle.linear_spec.specs.Span.{HaveOneSpan, HasRank};
 ghost use Rattle.linear_spec.specs.SequentialBasis.{IsCaseReply, IsReceived, recorded};
 
-/// Packets that fit, received in turn, have just one list of replies and of packets kept; these span what all of them span,
-/// and are as many as the rank.
+/// Packets that fit, received in turn, have just one list of replies and of packets kept. The coefficients of those kept span
+/// what the coefficients of all span, and their number is the rank of these.
 pub fn reception()
     ensures none { (k s : ℕ) → IsReceived k s [] [] [] }
     ensures more { (k s : ℕ) (packets : List Packet) (replies : List Reply) (kept : List Packet) (packet : Packet) (reply : Reply)
         → IsReceived k s packets replies kept → IsCaseReply k s kept packet reply
         → IsReceived k s (packets ++ packet ∷ []) (replies ++ reply ∷ []) (kept ++ recorded packet reply) }
+    ensures some { (k s : ℕ) (packets : List Packet) → All (Fits k s) packets
+        → (replies : List Reply) × (kept : List Packet) × IsReceived k s packets replies kept }
     ensures one { (k s : ℕ) (packets : List Packet) (replies : List Reply) (kept : List Packet) (answers : List Reply) (others : List Packet)
         → All (Fits k s) packets → IsReceived k s packets replies kept → IsReceived k s packets answers others
         → (answers ≡ replies) × (others ≡ kept) }

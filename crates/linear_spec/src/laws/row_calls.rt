@@ -7,7 +7,7 @@ ghost use Rattle.linear_spec.specs.Rows.{StandForAll, SpanAllWithMissing};
 
 use crate::{List, Packet};
 
-/// Rows that stand for the packets span what the packets span, as whole vectors and as lists of coefficients.
+/// Packets and the rows that stand for them have one span, as whole vectors and as lists of coefficients.
 pub fn rows_span(packets: &List<Packet>, rows: &List<Packet>)
     ensures vectors { (k s : ℕ) → All (Fits k s) packets.now.items → StandForAll k s packets.now.items rows.now.items
         → HaveOneSpan (k + s) (vectors_of packets.now.items) (vectors_of rows.now.items) }
@@ -17,7 +17,7 @@ pub fn rows_span(packets: &List<Packet>, rows: &List<Packet>)
     gf16::laws::field();
 }
 
-/// The coefficient lists of r rows that stand for the packets have rank r.
+/// The coefficients of rows that stand for packets have as their rank the number of rows.
 pub fn rows_rank(packets: &List<Packet>, rows: &List<Packet>)
     ensures { (k s : ℕ) → StandForAll k s packets.now.items rows.now.items
         → HasRank k (coefficients_of rows.now.items) (length rows.now.items) }
@@ -25,8 +25,8 @@ pub fn rows_rank(packets: &List<Packet>, rows: &List<Packet>)
     gf16::laws::field();
 }
 
-/// The coefficient lists of rows that stand for the packets, with the unit vectors of the columns that are the pivot of no
-/// row, span every list of as many symbols as a packet has coefficients.
+/// The coefficients of rows that stand for packets span all vectors of their length once the unit vectors of the missing
+/// columns join them.
 pub fn rows_fill(packets: &List<Packet>, rows: &List<Packet>)
     ensures { (k : ℕ) (s : ℕ) → StandForAll k s packets.now.items rows.now.items → SpanAllWithMissing k rows.now.items }
 {

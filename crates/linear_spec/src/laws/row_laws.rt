@@ -9,7 +9,7 @@ ghost use Rattle.linear_spec.specs.Span.{InSpan, HaveOneSpan, HasRank};
 ghost use Rattle.linear_spec.specs.Cases.{IsFresh, IsWithin, IsConflicting, IsOneCase};
 ghost use Rattle.linear_spec.specs.Rows.{StandsFor, StandForAll, IsRowOf, pivot_of, remainder_of};
 
-/// Rows that stand for packets span what the packets span. Each packet is fresh after those before it, so the rank of both is
+/// Packets and the rows that stand for them have one span. Each packet is fresh after those before it, so the rank of both is
 /// their number; and packets of which this holds have rows.
 pub fn rows()
     ensures none { (k s : ℕ) → StandForAll k s [] [] }

@@ -18,7 +18,7 @@ pub fn packet_fits(packet: &Packet)
     packet.payload.is_vector();
 }
 
-/// Where a and b lie in the span, so do a + b and c * a.
+/// A span is closed under sums and multiples.
 pub fn span_sum(vectors: &List<SymVec>, a: &SymVec, b: &SymVec, c: Gf)
     requires { All (IsVector (length a.now)) vectors.now.items }
     ensures sum { InSpan (length a.now) vectors.now.items a.now → InSpan (length a.now) vectors.now.items b.now
@@ -28,8 +28,8 @@ pub fn span_sum(vectors: &List<SymVec>, a: &SymVec, b: &SymVec, c: Gf)
     gf16::laws::field();
 }
 
-/// Where some nonzero multiple of the vector at a place, added to the row, lies in the span of the vectors before it, the
-/// list with the row at that place has the same span.
+/// To put a row in the place of a vector leaves the span as it is, where the row and some multiple of that vector, not 0
+/// times it, add up to a vector of the span of those before it.
 pub fn span_replace(vectors: &List<SymVec>, at: usize, row: &SymVec)
     requires at { at < length vectors.now.items }
     requires vectors { All (IsVector (length row.now)) vectors.now.items }
