@@ -1,4 +1,4 @@
--- The coefficient lists of rows, with the unit vectors of the columns that are the pivot of no row, span everything.
+-- Why the coefficients of rows and the unit vectors of the missing columns span everything together.
 use Rattle.std.proofs.Common.{◌≡◌, ◌≢◌, ◌⊎◌, ℕ, Bool, true, false, not, ◌==◌, zero, suc, ◌+◌, ◌<◌, ◌≤◌, List, [], ◌∷◌, ◌++◌, length, map, take, get_or, replicate, refl, sym, ap, ◌∙◌, subst, ⊎_elim, lit<, arith}
 use Rattle.std.specs.List.{All, Contains, filter, list_any, range_with_len}
 use Rattle.std.proofs.lemmas.Bool.{true≢false, eqb-true}
