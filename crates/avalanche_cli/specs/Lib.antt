@@ -1,3 +1,4 @@
 pub mod End
 pub mod Fetch
-pub mod Plain
+pub mod FetchSteps
+pub mod Reception

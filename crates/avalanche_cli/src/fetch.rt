@@ -1,12 +1,12 @@
-ghost use Rattle.std.specs.Prelude.{◌≡◌, ◌⊎◌, ◌+◌, ◌≤◌, ℕ, List as list, IfOk, IfErr, IfSome, IsErrOf, OnOk};
+ghost use Rattle.std.specs.Prelude.{◌≡◌, ◌≢◌, ◌+◌, ◌≤◌, [], IfOk, IfErr, OnOk, IsErrOf};
 ghost use Rattle.std.specs.Io.KnownBytes.{IsAtEnd};
 ghost use Rattle.swarm_io.specs.Counts.{Rose};
 ghost use Rattle.swarm_io.specs.Moved.{TakesAtMost};
-ghost use Rattle.avalanche_cli.specs.Fetch.{CanFetch, CannotFetch, Gives, GivesPrefix, IsEndOfFetch, IsFileOf, IsRefusal, stream_limit};
+ghost use Rattle.avalanche_cli.specs.Fetch.{IsKept, IsUnfetchable, stream_limit};
+ghost use Rattle.avalanche_cli.specs.FetchSteps.{IsEnd, IsReceptionOf, IsRefusal, IsWritten};
 
-use crate::End;
-use crate::plain::plain_file;
-use linear_spec::List;
+use crate::reception::{Reception, receive};
+use crate::{End, Outcome};
 use packet_wire::read_stream;
 use std::alloc::Global;
 use swarm_io::{Sink, Source, read_all, write_all_of};
@@ -14,53 +14,76 @@ use swarm_io::{Sink, Source, read_all, write_all_of};
 /// The most bytes that a stream may have.
 const MAX_STREAM: u64 = 67_108_864;
 
-/// Reads a stream, and writes its file.
-pub(crate) fn fetch<I: Source, O: Sink>(alloc: Global, input: &mut I, output: &mut O) -> End
-    ensures done { result ≡ End.Done
-        → Gives (I.remaining input.old) (O.contents output.old) (O.contents output.new) × IsAtEnd (I.remaining input.new) }
-    ensures write_fault { result ≡ End.WriteFault
-        → GivesPrefix (I.remaining input.old) (O.contents output.old) (O.contents output.new)
-        × Rose (O.faults output.old) (O.faults output.new) }
-    ensures memory { result ≡ End.Memory
-        → (output.new ≡ output.old) ⊎ (GivesPrefix (I.remaining input.old) (O.contents output.old) (O.contents output.new)
-        × Rose (O.wants output.old) (O.wants output.new)) }
-    ensures read_fault { result ≡ End.ReadFault
-        → (output.new ≡ output.old) × Rose (I.faults input.old) (I.faults input.new) }
-    ensures not_built { result ≡ End.NotBuilt
-        → (output.new ≡ output.old) × IfSome (I.remaining input.old) CannotFetch }
-    ensures no_other { IsEndOfFetch result }
+/// Reads a stream, receives its packets, and writes its file.
+pub(crate) fn fetch<I: Source, O: Sink>(alloc: Global, input: &mut I, output: &mut O) -> Outcome
+    ensures end { IsEnd (I.remaining input.old) (O.contents output.old) (O.contents output.new) (output.new ≡ output.old)
+        (Rose (I.faults input.old) (I.faults input.new)) (Rose (O.faults output.old) (O.faults output.new))
+        (Rose (O.wants output.old) (O.wants output.new)) result.end }
+    ensures kept { IsKept result.end (I.remaining input.old) result.replies.items result.records.items }
+    ensures done_reads_all { result.end ≡ End.Done → IsAtEnd (I.remaining input.new) }
     ensures input_faults { I.faults input.old ≤ I.faults input.new }
     ensures output_faults { O.faults output.old ≤ O.faults output.new }
     ensures output_wants { O.wants output.old ≤ O.wants output.new }
-    ensures complete { IfSome (I.remaining input.old) (λ bytes. (file : list ℕ) → CanFetch bytes file
-        → ¬ Rose (I.faults input.old) (I.faults input.new) → ¬ Rose (O.faults output.old) (O.faults output.new)
-        → (result ≡ End.Done) ⊎ (result ≡ End.Memory)) }
-    ensures unfetchable { IfSome (I.remaining input.old) (λ bytes. CannotFetch bytes
-        → ¬ Rose (I.faults input.old) (I.faults input.new)
-        → (result ≡ End.NotBuilt) ⊎ (result ≡ End.Memory)) }
     ensures taken { TakesAtMost (I.remaining input.old) (I.remaining input.new) (stream_limit + 1) }
 {
-    match fetched(alloc, input) {
-        Ok(file) => match write_all_of(output, file.as_slice()) {
-            Ok(()) => End::Done,
-            Err(error) => End::from(error),
-        },
-        Err(end) => end,
+    match received(alloc, input) {
+        Ok(reception) => finished(alloc, reception, output),
+        Err(end) => Outcome::without_packets(alloc, end),
     }
 }
 
-/// The file of the stream that the input has.
-fn fetched<I: Source>(alloc: Global, input: &mut I) -> Result<List<u8>, End>
-    ensures file { IfOk result (λ file. IsFileOf (I.remaining input.old) file.items) }
-    ensures end { OnOk result (IsAtEnd (I.remaining input.new)) }
-    ensures read_fault { IsErrOf result End.ReadFault → Rose (I.faults input.old) (I.faults input.new) }
-    ensures not_built { IsErrOf result End.NotBuilt
-        → IfSome (I.remaining input.old) CannotFetch }
-    ensures refusal { IfErr result IsRefusal }
+/// Reads the stream that the input has, and receives its packets.
+fn received<I: Source>(alloc: Global, input: &mut I) -> Result<Reception, End>
+    ensures received { IfOk result (λ r. IsReceptionOf (I.remaining input.old) r.replies.items r.records.items r.file) }
+    ensures at_end { OnOk result (IsAtEnd (I.remaining input.new)) }
+    ensures refusal { IfErr result (IsRefusal (I.remaining input.old) (Rose (I.faults input.old) (I.faults input.new))) }
     ensures taken { TakesAtMost (I.remaining input.old) (I.remaining input.new) (stream_limit + 1) }
     ensures faults { I.faults input.old ≤ I.faults input.new }
 {
     let bytes = read_all(alloc, input, MAX_STREAM)?;
     let stream = read_stream(alloc, bytes.as_slice())?;
-    plain_file(alloc, &stream)
+    Ok(receive(alloc, &stream)?)
+}
+
+/// Writes the file of received packets where they have one.
+fn finished<O: Sink>(alloc: Global, reception: Reception, output: &mut O) -> Outcome
+    ensures written { IfOk reception.file (λ file. IsWritten file.items (O.contents output.old) (O.contents output.new)
+        (Rose (O.faults output.old) (O.faults output.new)) (Rose (O.wants output.old) (O.wants output.new)) result.end) }
+    ensures stopped { IfErr reception.file (λ end. (result.end ≡ end) × (output.new ≡ output.old)) }
+    ensures memory { result.end ≡ End.Memory → (result.replies.items ≡ []) × (result.records.items ≡ []) }
+    ensures kept { result.end ≢ End.Memory
+        → (result.replies.items ≡ reception.replies.items) × (result.records.items ≡ reception.records.items) }
+    ensures faults { O.faults output.old ≤ O.faults output.new }
+    ensures wants { O.wants output.old ≤ O.wants output.new }
+{
+    let Reception {
+        replies,
+        records,
+        file,
+    } = reception;
+    let end = match file {
+        Ok(file) => written(output, file.as_slice()),
+        Err(end) => end,
+    };
+    if end == End::Memory {
+        return Outcome::without_packets(alloc, end);
+    }
+    Outcome {
+        end,
+        replies,
+        records,
+    }
+}
+
+/// Writes a file, all of it.
+fn written<O: Sink>(output: &mut O, file: &[u8]) -> End
+    ensures end { IsWritten file.now (O.contents output.old) (O.contents output.new)
+        (Rose (O.faults output.old) (O.faults output.new)) (Rose (O.wants output.old) (O.wants output.new)) result }
+    ensures faults { O.faults output.old ≤ O.faults output.new }
+    ensures wants { O.wants output.old ≤ O.wants output.new }
+{
+    match write_all_of(output, file) {
+        Ok(()) => End::Done,
+        Err(error) => End::from(error),
+    }
 }

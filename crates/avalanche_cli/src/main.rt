@@ -4,8 +4,8 @@
 mod end;
 mod fetch;
 mod outcome;
-mod plain;
 mod program;
+mod reception;
 
 pub use end::End;
 use linear_spec::Words;

@@ -1,12 +1,14 @@
-ghost use Rattle.std.specs.Prelude.{◌≡◌, ◌⊎◌, ◌+◌, ◌≤◌, ◌↔◌, ℕ, List as list, [], IfSome, IsTrue};
+ghost use Rattle.std.specs.Prelude.{◌≡◌, ◌≢◌, ◌⊎◌, ◌+◌, ◌≤◌, ◌<◌, ◌↔◌, ℕ, List as list, IfSome, IsTrue};
 ghost use Rattle.std.specs.Io.KnownBytes.{IsAtEnd};
+ghost use Rattle.sha2.specs.Sha256.{sha256};
 ghost use Rattle.swarm_io.specs.Counts.{Rose};
 ghost use Rattle.swarm_io.specs.Moved.{TakesAtMost};
-ghost use Rattle.avalanche_cli.specs.Fetch.{CanFetch, CannotFetch, Gives, GivesPrefix, IsEndOfFetch, IsFetch, stream_limit};
+ghost use Rattle.packet_wire.specs.Stream.{Contents};
+ghost use Rattle.avalanche_cli.specs.Fetch.{Gives, GivesPrefix, HasOtherDigest, HasPacketRank, IsFetch, IsFetchable, IsFileOf, IsKept, IsUnfetchable, LacksRank, stream_limit};
 
 use crate::fetch::fetch;
 use crate::{End, Outcome};
-use linear_spec::{List, Words};
+use linear_spec::Words;
 use std::alloc::Global;
 use std::thread::Threads;
 use swarm_io::{Sink, Source};
@@ -26,30 +28,47 @@ pub fn run<R: Threads + Sync, I: Source, O: Sink, E: Sink>(
     ensures other_words { ¬ IsFetch words.now
         → (result.end ≡ End.NotBuilt) × (input.new ≡ input.old) × (output.new ≡ output.old) }
 
-    // Done: the input was a plain stream, and the output gained its file.
+    // What was answered to the packets, and which were recorded.
+    ensures kept { IsKept result.end (I.remaining input.old) result.replies.items result.records.items }
+
+    // Done: the output gained the file of the input, which has the digest that its manifest says.
     ensures done { result.end ≡ End.Done → Gives (I.remaining input.old) (O.contents output.old) (O.contents output.new) }
     ensures done_reads_all { result.end ≡ End.Done → IsAtEnd (I.remaining input.new) }
-
-    // A plain stream is fetched, or memory is wanted, unless a fault came.
-    ensures complete { IsFetch words.now → IfSome (I.remaining input.old) (λ bytes. (file : list ℕ) → CanFetch bytes file
+    ensures complete { IsFetch words.now → IfSome (I.remaining input.old) (λ bytes. (contents : Contents) (file : list ℕ)
+        → IsFetchable bytes contents → IsFileOf contents file → sha256 file ≡ contents.manifest.digest
         → ¬ Rose (I.faults input.old) (I.faults input.new) → ¬ Rose (O.faults output.old) (O.faults output.new)
         → (result.end ≡ End.Done) ⊎ (result.end ≡ End.Memory)) }
 
-    // NotBuilt: exactly where the input is no plain stream, unless a fault came or memory was wanted.
-    ensures not_built { IsFetch words.now → result.end ≡ End.NotBuilt
-        → IfSome (I.remaining input.old) CannotFetch }
-    ensures unfetchable { IsFetch words.now → IfSome (I.remaining input.old) (λ bytes. CannotFetch bytes
+    // Mismatch: exactly where the file has another digest, unless a fault came or memory was wanted.
+    ensures mismatch { (found : list ℕ) → result.end ≡ End.Mismatch found → HasOtherDigest (I.remaining input.old) found }
+    ensures other_digest { IsFetch words.now → IfSome (I.remaining input.old) (λ bytes. (contents : Contents) (file : list ℕ)
+        → IsFetchable bytes contents → IsFileOf contents file → sha256 file ≢ contents.manifest.digest
+        → ¬ Rose (I.faults input.old) (I.faults input.new)
+        → (result.end ≡ End.Mismatch (sha256 file)) ⊎ (result.end ≡ End.Memory)) }
+
+    // Incomplete: exactly where the packets' rank is too low, unless a fault came or memory was wanted.
+    ensures incomplete { (generation rank : ℕ) → result.end ≡ End.Incomplete generation rank
+        → (generation ≡ 0) × LacksRank (I.remaining input.old) rank }
+    ensures low_rank { IsFetch words.now → IfSome (I.remaining input.old) (λ bytes. (contents : Contents) (rank : ℕ)
+        → IsFetchable bytes contents → HasPacketRank contents rank → rank < contents.manifest.shape.k
+        → ¬ Rose (I.faults input.old) (I.faults input.new)
+        → (result.end ≡ End.Incomplete 0 rank) ⊎ (result.end ≡ End.Memory)) }
+
+    // NotBuilt: exactly where the input is no first stream, unless a fault came or memory was wanted.
+    ensures not_built { IsFetch words.now → result.end ≡ End.NotBuilt → IfSome (I.remaining input.old) IsUnfetchable }
+    ensures unfetchable { IsFetch words.now → IfSome (I.remaining input.old) (λ bytes. IsUnfetchable bytes
         → ¬ Rose (I.faults input.old) (I.faults input.new)
         → (result.end ≡ End.NotBuilt) ⊎ (result.end ≡ End.Memory)) }
 
-    // The other ends have their causes.
+    // Faults have their causes.
     ensures read_fault { result.end ≡ End.ReadFault → Rose (I.faults input.old) (I.faults input.new) }
     ensures write_fault { result.end ≡ End.WriteFault → Rose (O.faults output.old) (O.faults output.new) }
-    ensures no_other { IsEndOfFetch result.end }
 
     // What each end but Done leaves.
     ensures not_built_writes_nothing { result.end ≡ End.NotBuilt → output.new ≡ output.old }
     ensures read_fault_writes_nothing { result.end ≡ End.ReadFault → output.new ≡ output.old }
+    ensures incomplete_writes_nothing { (generation rank : ℕ) → result.end ≡ End.Incomplete generation rank → output.new ≡ output.old }
+    ensures mismatch_writes_nothing { (found : list ℕ) → result.end ≡ End.Mismatch found → output.new ≡ output.old }
     ensures write_fault_leaves_prefix { result.end ≡ End.WriteFault
         → GivesPrefix (I.remaining input.old) (O.contents output.old) (O.contents output.new) }
     ensures memory_leaves { result.end ≡ End.Memory
@@ -63,26 +82,14 @@ pub fn run<R: Threads + Sync, I: Source, O: Sink, E: Sink>(
     ensures taken { TakesAtMost (I.remaining input.old) (I.remaining input.new) (stream_limit + 1) }
 
     ensures errors_untouched { errors.new ≡ errors.old }
-    ensures no_replies { result.replies.items ≡ [] }
-    ensures no_records { result.records.items ≡ [] }
 {
     if !is_fetch(words) {
-        return ended(alloc, End::NotBuilt);
+        return Outcome::without_packets(alloc, End::NotBuilt);
     }
-    ended(alloc, fetch(alloc, input, output))
-}
-
-/// An outcome with no replies and no records.
-fn ended(alloc: Global, end: End) -> Outcome
-    ensures end { result.end ≡ end }
-    ensures replies { result.replies.items ≡ [] }
-    ensures records { result.records.items ≡ [] }
-{
-    Outcome {
-        end,
-        replies: List::new(alloc),
-        records: List::new(alloc),
-    }
+    let outcome = fetch(alloc, input, output);
+    linear_spec::laws::reception();
+    linear_spec::laws::ranks();
+    outcome
 }
 
 /// Whether the words are the one word `fetch`.

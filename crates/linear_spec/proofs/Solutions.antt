@@ -14,7 +14,7 @@ use Rattle.linear_spec.specs.Span.{InSpan}
 use Rattle.linear_spec.specs.Packet.{Fits, IsTrueTo, vector_of, vectors_of, coefficients_of, payloads_of}
 use Rattle.linear_spec.specs.Cases.{IsWithin}
 use Rattle.linear_spec.specs.Rows.{StandForAll}
-use Rattle.linear_spec.specs.Solving.{Solve}
+use Rattle.linear_spec.specs.Solving.{Solves}
 use Rattle.linear_spec.specs.UnitVector.{unit_of}
 use Rattle.linear_spec.proofs.SpanLaws.{length-combination, combination-none, combination-zeros, combination-cons_any, IsVector-combination, IsVector-replicate, plus_scaled-zero, plus_scaled-zeros, zeros-plus_scaled, plus_scaled-commutes, scaled-one}
 use Rattle.linear_spec.proofs.VectorSums.{plus_twice}
@@ -27,7 +27,7 @@ use Rattle.linear_spec.proofs.RankBounds.{fresh_gives_row, rows_at_most}
 
 -- ---- what solves packets solves what they span
 
-module _ (field : IsField) (k s : ℕ) (packets : List Packet) (blocks : List (List ℕ)) (fit : All (Fits k s) packets) (solve : Solve k s packets blocks) where
+module _ (field : IsField) (k s : ℕ) (packets : List Packet) (blocks : List (List ℕ)) (fit : All (Fits k s) packets) (solve : Solves k s packets blocks) where
   true_within : (packet : Packet) → Fits k s packet → IsWithin k s packets packet → IsTrueTo s blocks packet
   true_within packet fits inside =
       let cs = inside.coefficients in
@@ -46,7 +46,7 @@ module _ (field : IsField) (k s : ℕ) (packets : List Packet) (blocks : List (L
       ∙ payload
 
   pub solve_spanned : (others : List Packet) → All (Fits k s) others
-      → ((v : List ℕ) → InSpan (k + s) (vectors_of others) v → InSpan (k + s) (vectors_of packets) v) → Solve k s others blocks
+      → ((v : List ℕ) → InSpan (k + s) (vectors_of others) v → InSpan (k + s) (vectors_of packets) v) → Solves k s others blocks
   solve_spanned others others_fit within =
       let members = All-from_map (InSpan (k + s) (vectors_of others)) vector_of others
       (span-members field (k + s) (vectors_of others) (IsVector-vectors k s others others_fit)) in
@@ -61,7 +61,7 @@ module _ (field : IsField) (k s : ℕ) (packets : List Packet) (blocks : List (L
 -- ---- at full rank
 
 module _ (field : IsField) (k s : ℕ) (packets rows : List Packet) (fit : All (Fits k s) packets) (stand : StandForAll k s packets rows) where
-  pub solve_from_rows : (blocks : List (List ℕ)) → Solve k s rows blocks → Solve k s packets blocks
+  pub solve_from_rows : (blocks : List (List ℕ)) → Solves k s rows blocks → Solves k s packets blocks
   solve_from_rows blocks solve =
       solve_spanned field k s rows blocks (rows_fit k s packets rows stand) solve packets fit
       (λ v. (rows_same_span k s field packets rows fit stand v).0)
@@ -104,7 +104,7 @@ combination-unit field s (suc k) (suc column) (block ∷ blocks) count vectors b
 -- ---- one solution
 
 module _ (field : IsField) (k s : ℕ) (packets : List Packet) (fit : All (Fits k s) packets) where
-  at_block : (column : ℕ) (blocks : List (List ℕ)) → Solve k s packets blocks → column < k → (inside : InSpan k (coefficients_of packets) (unit_of k column))
+  at_block : (column : ℕ) (blocks : List (List ℕ)) → Solves k s packets blocks → column < k → (inside : InSpan k (coefficients_of packets) (unit_of k column))
       → get_or blocks column [] ≡ combination_of s inside.coefficients (payloads_of packets)
   at_block column blocks solve below inside =
       sym (combination-unit field s k column blocks solve.count solve.vectors below)
@@ -113,7 +113,7 @@ module _ (field : IsField) (k s : ℕ) (packets : List Packet) (fit : All (Fits 
       (inside.are_symbols.count ∙ length-map packets (λ packet. packet.coeffs)) fit solve.true_to solve.count solve.vectors
 
   pub one_solution : (rows : List Packet) (blocks others : List (List ℕ)) → StandForAll k s packets rows → length packets ≡ k
-      → Solve k s packets blocks → Solve k s packets others → others ≡ blocks
+      → Solves k s packets blocks → Solves k s packets others → others ≡ blocks
   one_solution rows blocks others stand full solve too =
       ext_get_or [] others blocks (too.count ∙ sym solve.count)
       (λ column h.

@@ -8,7 +8,7 @@ use Rattle.linear_spec.specs.Packet.{IsTrueTo}
 use Rattle.linear_spec.specs.Symbols.{IsVector}
 
 -- k blocks of s symbols, to which every packet is true
-pub record Solve (k s : ℕ) (packets : List Packet) (blocks : List (List ℕ)) : Type 0 where
+pub record Solves (k s : ℕ) (packets : List Packet) (blocks : List (List ℕ)) : Type 0 where
   pub count : length blocks ≡ k
   pub vectors : All (IsVector s) blocks
   pub true_to : All (IsTrueTo s blocks) packets

@@ -11,7 +11,7 @@ use Rattle.linear_spec.specs.Symbols.{AreSymbols, IsVector}
 use Rattle.linear_spec.specs.Combination.{combination_of}
 use Rattle.linear_spec.specs.Packet.{IsTrueTo}
 use Rattle.linear_spec.specs.Rows.{StandsFor, pivot_of, first_nonzero}
-use Rattle.linear_spec.specs.Solving.{Solve}
+use Rattle.linear_spec.specs.Solving.{Solves}
 use Rattle.plain_basis.specs.BackSubstitution.{AreRows}
 
 pub record IsSolvedFrom (k s : ℕ) (rows : List Packet) (at : ℕ) (blocks : List (List ℕ)) : Type 0 where
@@ -53,7 +53,7 @@ module _ (k s : ℕ) (rows : List Packet) (are : AreRows k s rows) where
         get_or-replicate k (pivot_of (get_or rows j d)) (replicate s 0) [] below;
   }
 
-  pub solved_all : (blocks : List (List ℕ)) → IsSolvedFrom k s rows 0 blocks → Solve k s rows blocks
+  pub solved_all : (blocks : List (List ℕ)) → IsSolvedFrom k s rows 0 blocks → Solves k s rows blocks
   solved_all blocks solved = record {
     count = solved.count;
     vectors = solved.vectors;

@@ -2,7 +2,7 @@ ghost use Rattle.std.specs.Prelude.{◌≡◌, ◌++◌, [], length, IfOk, OnErr
 ghost use Rattle.std.specs.List.{All};
 ghost use Rattle.linear_spec.specs.Packet.{Fits, coefficients_of};
 ghost use Rattle.linear_spec.specs.SequentialBasis.{IsCaseReply, recorded};
-ghost use Rattle.linear_spec.specs.Solving.{Solve};
+ghost use Rattle.linear_spec.specs.Solving.{Solves};
 ghost use Rattle.linear_spec.specs.Span.{HasRank};
 ghost use Rattle.plain_basis.specs.Solutions.{IsOnlySolution};
 
@@ -102,7 +102,7 @@ impl PlainBasis {
     /// The blocks that solve the records, K of S symbols: there are no others. They take memory of the basis's allocator.
     pub fn solve(&self) -> Result<List<SymVec>, Memory>
         requires full { length self.now.packets ≡ self.now.k }
-        ensures solves { IfOk result (λ blocks. Solve self.now.k self.now.s self.now.packets blocks.items) }
+        ensures solves { IfOk result (λ blocks. Solves self.now.k self.now.s self.now.packets blocks.items) }
         ensures only { IfOk result (λ blocks. IsOnlySolution self.now.k self.now.s self.now.packets blocks.items) }
     {
         linear_spec::laws::solving();

@@ -4,7 +4,7 @@ ghost use Rattle.std.specs.List.{All};
 ghost use Rattle.gf16.specs.Sums.{plus_scaled};
 ghost use Rattle.linear_spec.specs.Symbols.{IsVector};
 ghost use Rattle.linear_spec.specs.Combination.{combination_of};
-ghost use Rattle.linear_spec.specs.Solving.{Solve};
+ghost use Rattle.linear_spec.specs.Solving.{Solves};
 ghost use Rattle.plain_basis.specs.BackSubstitution.{AreRows};
 
 use crate::reduce::{add_scaled, place_of_first};
@@ -20,7 +20,7 @@ pub fn solve_rows(
     rows: &List<Packet>,
 ) -> Result<List<SymVec>, Memory>
     requires { AreRows k s rows.now.items }
-    ensures { IfOk result (λ blocks. Solve k s rows.now.items blocks.items) }
+    ensures { IfOk result (λ blocks. Solves k s rows.now.items blocks.items) }
 {
     linear_spec::laws::combinations();
     linear_spec::laws::solving();

@@ -7,14 +7,14 @@ ghost use Rattle.linear_spec.specs.Symbols.{AreSymbols, IsVector};
 ghost use Rattle.linear_spec.specs.Combination.{combination_of};
 ghost use Rattle.linear_spec.specs.Packet.{Fits};
 ghost use Rattle.linear_spec.specs.Rows.{StandForAll};
-ghost use Rattle.linear_spec.specs.Solving.{Solve};
+ghost use Rattle.linear_spec.specs.Solving.{Solves};
 
 /// The laws of solving, for all packets that fit and the rows that stand for them.
 pub fn solving()
     ensures rows { (k s : ℕ) (packets rows : List Packet) (blocks : List (List ℕ)) → All (Fits k s) packets → StandForAll k s packets rows
-        → Solve k s rows blocks → Solve k s packets blocks }
+        → Solves k s rows blocks → Solves k s packets blocks }
     ensures only { (k s : ℕ) (packets rows : List Packet) (blocks others : List (List ℕ)) → All (Fits k s) packets → StandForAll k s packets rows
-        → length packets ≡ k → Solve k s packets blocks → Solve k s packets others → others ≡ blocks }
+        → length packets ≡ k → Solves k s packets blocks → Solves k s packets others → others ≡ blocks }
     ensures known { (s place : ℕ) (coeffs payload : List ℕ) (blocks : List (List ℕ)) → AreSymbols coeffs → IsVector s payload → All (IsVector s) blocks
         → place < length blocks → slice_index_or blocks place [] ≡ replicate s 0 → slice_index coeffs place ≡ 1
         → combination_of s coeffs (slice_set blocks place (plus_scaled (combination_of s coeffs blocks) 1 payload)) ≡ payload }

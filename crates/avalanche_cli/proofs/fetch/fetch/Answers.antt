@@ -1,11 +1,6 @@
-use Rattle.avalanche_cli.proofs.EndLemmas.{file_is_there, refused}
+use Rattle.avalanche_cli.proofs.EndLemmas.{end_of_reception}
 use Rattle.avalanche_cli.proofs.fetch.fetch.Goals as goal
 
-pub returns-in-Ok-write_all_of-clause-unfetchable : goal.returns-in-Ok-write_all_of-clause-unfetchable
-returns-in-Ok-write_all_of-clause-unfetchable g c = file_is_there _ c.in-Ok.file.items _ c.in-Ok.ensures.file
-
-pub returns-in-Ok-clause-unfetchable : goal.returns-in-Ok-clause-unfetchable
-returns-in-Ok-clause-unfetchable g c = file_is_there _ c.in-Ok.file.items _ c.in-Ok.ensures.file
-
-pub returns-clause-complete : goal.returns-clause-complete
-returns-clause-complete g c = refused _ c.in-Err.end _ _ c.in-Err.ensures.refusal c.in-Err.ensures.not_built c.in-Err.ensures.read_fault
+pub returns-in-Ok-clause-end : goal.returns-in-Ok-clause-end
+returns-in-Ok-clause-end g c =
+    end_of_reception _ _ _ _ _ _ _ c.in-Ok.reception.replies.items c.in-Ok.reception.records.items c.in-Ok.reception.file c.finished.result.end c.in-Ok.ensures.received c.finished.ensures.written c.finished.ensures.stopped

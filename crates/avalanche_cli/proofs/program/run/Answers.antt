@@ -1,7 +1,8 @@
+use Rattle.avalanche_cli.proofs.EndLemmas.{complete, other_digest}
 use Rattle.avalanche_cli.proofs.program.run.Goals as goal
 
 pub returns-clause-complete : goal.returns-clause-complete
-returns-clause-complete g c = λ _. rw c.ended-2.ensures.end c.fetch.ensures.complete
+returns-clause-complete g c = λ fetch. complete c.reception.ensures.rank c.ranks.ensures.one _ _ _ _ _ _ _ c.fetch-outcome.result.end c.fetch-outcome.ensures.end
 
-pub returns-clause-unfetchable : goal.returns-clause-unfetchable
-returns-clause-unfetchable g c = λ _. rw c.ended-2.ensures.end c.fetch.ensures.unfetchable
+pub returns-clause-other_digest : goal.returns-clause-other_digest
+returns-clause-other_digest g c = λ fetch. other_digest c.reception.ensures.rank c.ranks.ensures.one _ _ _ _ _ _ _ c.fetch-outcome.result.end c.fetch-outcome.ensures.end

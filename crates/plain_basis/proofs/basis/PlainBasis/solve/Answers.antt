@@ -1,7 +1,7 @@
 use Rattle.std.proofs.Common.{◌≡◌, length, sym, subst}
 use Rattle.std.specs.Result.{IfOk}
 use Rattle.std.proofs.lemmas.Result.{IfOk-weaker}
-use Rattle.linear_spec.specs.Solving.{Solve}
+use Rattle.linear_spec.specs.Solving.{Solves}
 use Rattle.plain_basis.specs.Solutions.{IsOnlySolution}
 use Rattle.plain_basis.proofs.basis.PlainBasis.solve.Goals as goal
 
@@ -10,8 +10,8 @@ pub returns-clause-solves : goal.returns-clause-solves
 returns-clause-solves c =
     let b = c.self.inside in
     let sound = c.self.invariant in
-    subst (λ basis. IfOk c.solve_rows.result (λ blocks. Solve basis.k basis.s basis.packets blocks.items)) c.self.view_is
-    (IfOk-weaker c.solve_rows.result (λ blocks. Solve b.k b.s b.rows.items blocks.items) (λ blocks. Solve b.k b.s b.packets.items blocks.items)
+    subst (λ basis. IfOk c.solve_rows.result (λ blocks. Solves basis.k basis.s basis.packets blocks.items)) c.self.view_is
+    (IfOk-weaker c.solve_rows.result (λ blocks. Solves b.k b.s b.rows.items blocks.items) (λ blocks. Solves b.k b.s b.packets.items blocks.items)
     (λ blocks solve. c.solving.ensures.rows b.k b.s b.packets.items b.rows.items blocks.items sound.fit sound.stand solve)
     c.solve_rows.ensures)
 
@@ -22,7 +22,7 @@ returns-clause-only c =
     let sound = c.self.invariant in
     let full = subst (λ basis. length basis.packets ≡ basis.k) (sym c.self.view_is) c.requires.full in
     subst (λ basis. IfOk c.solve_rows.result (λ blocks. IsOnlySolution basis.k basis.s basis.packets blocks.items)) c.self.view_is
-    (IfOk-weaker c.solve_rows.result (λ blocks. Solve b.k b.s b.rows.items blocks.items) (λ blocks. IsOnlySolution b.k b.s b.packets.items blocks.items)
+    (IfOk-weaker c.solve_rows.result (λ blocks. Solves b.k b.s b.rows.items blocks.items) (λ blocks. IsOnlySolution b.k b.s b.packets.items blocks.items)
     (λ blocks solve others too.
     c.solving.ensures.only b.k b.s b.packets.items b.rows.items blocks.items others sound.fit sound.stand full
     (c.solving.ensures.rows b.k b.s b.packets.items b.rows.items blocks.items sound.fit sound.stand solve) too)
