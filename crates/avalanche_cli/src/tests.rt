@@ -2,7 +2,7 @@ ghost use Rattle.std.specs.Prelude.{None};
 
 use super::*;
 use gf16::Memory;
-use linear_spec::List;
+use linear_spec::{List, Reply};
 use std::alloc::Global;
 use std::test::Fail;
 use std::thread::Threads;
@@ -19,43 +19,149 @@ const ABC_STREAM: [u8; 143] = [
     0x4C, 0x4E, 1, 4, 0, 0, 0, 0,
 ];
 
-/// What a run of one word over these bytes ends as, and what it writes.
-fn run_on<R: Threads + Sync>(
+/// The stream with the manifest and the ticket of `ABC_STREAM` and these packets, each two coefficients and a payload.
+fn stream_of(alloc: Global, packets: &[[u16; 3]]) -> Result<List<u8>, Memory> {
+    let mut bytes = List::new(alloc);
+    bytes.extend_from_slice(&ABC_STREAM[..97])?;
+    for symbols in packets {
+        bytes.extend_from_slice(&ABC_STREAM[97..107])?;
+        bytes.extend_from_slice(&[0, 0])?;
+        for symbol in symbols {
+            bytes.extend_from_slice(&symbol.to_be_bytes())?;
+        }
+    }
+    bytes.extend_from_slice(&ABC_STREAM[133..])?;
+    Ok(bytes)
+}
+
+/// What a run of the word `fetch` over these bytes does, and what it writes.
+fn fetch_of<R: Threads + Sync>(
     rt: &R,
     alloc: Global,
-    word: &str,
-    bytes: &[u8],
-) -> Result<(End, SteadySink), Memory> {
+    bytes: List<u8>,
+) -> Result<(Outcome, SteadySink), Memory> {
     let mut words = Words::new(alloc);
-    words.push(word)?;
-    let mut input = List::new(alloc);
-    input.extend_from_slice(bytes)?;
-    let mut input = SteadySource::new(input, 50);
+    words.push("fetch")?;
+    let mut input = SteadySource::new(bytes, 50);
     let mut output = SteadySink::new(alloc, 2);
     let mut errors = SteadySink::new(alloc, 1);
     let outcome = run(rt, alloc, &words, &mut input, &mut output, &mut errors);
-    Ok((outcome.end, output))
+    Ok((outcome, output))
 }
 
 #[test]
 fn fetches_abc_from_two_packets(rt: HostRuntime) -> Result<(), Fail> {
-    let (end, output) = run_on(&rt, rt.alloc(), "fetch", &ABC_STREAM)?;
-    assert_eq!(rt; end, End::Done);
+    let mut stream = List::new(rt.alloc());
+    stream.extend_from_slice(&ABC_STREAM)?;
+    let (outcome, output) = fetch_of(&rt, rt.alloc(), stream)?;
+    assert_eq!(rt; outcome.end, End::Done);
     assert_eq!(rt; output.bytes(), b"abc".as_slice());
+    let replies = [
+        Reply::Innovative { at: 0 },
+        Reply::Innovative { at: 1 },
+    ];
+    assert_eq!(rt; outcome.replies.as_slice(), replies.as_slice());
     Ok(())
 }
 
 #[test]
-fn a_stream_cut_short_or_changed_is_not_built(rt: HostRuntime) -> Result<(), Fail> {
-    let (end, output) = run_on(&rt, rt.alloc(), "fetch", &ABC_STREAM[..142])?;
-    assert_eq!(rt; end, End::NotBuilt);
+fn fetches_abc_from_dense_packets(rt: HostRuntime) -> Result<(), Fail> {
+    let stream = stream_of(rt.alloc(), &[[1, 1, 0x0262], [0, 1, 0x6300]])?;
+    let (outcome, output) = fetch_of(&rt, rt.alloc(), stream)?;
+    assert_eq!(rt; outcome.end, End::Done);
+    assert_eq!(rt; output.bytes(), b"abc".as_slice());
+    assert_eq!(rt; outcome.records.len(), 2);
+    Ok(())
+}
+
+#[test]
+fn a_third_packet_tells_nothing_new(rt: HostRuntime) -> Result<(), Fail> {
+    let cases = [
+        (0x0262, Reply::NotInnovative { front: 2 }),
+        (0x0263, Reply::Conflicting { front: 2 }),
+    ];
+    for (payload, reply) in cases {
+        let packets = [[1, 0, 0x6162], [0, 1, 0x6300], [1, 1, payload]];
+        let stream = stream_of(rt.alloc(), &packets)?;
+        let (outcome, output) = fetch_of(&rt, rt.alloc(), stream)?;
+        assert_eq!(rt; outcome.end, End::Done);
+        assert_eq!(rt; output.bytes(), b"abc".as_slice());
+        let replies = [
+            Reply::Innovative { at: 0 },
+            Reply::Innovative { at: 1 },
+            reply,
+        ];
+        assert_eq!(rt; outcome.replies.as_slice(), replies.as_slice());
+        assert_eq!(rt; outcome.records.len(), 2);
+    }
+    Ok(())
+}
+
+#[test]
+fn a_first_packet_of_no_coefficients_tells_nothing_new(rt: HostRuntime) -> Result<(), Fail> {
+    let cases = [
+        (0, Reply::NotInnovative { front: 0 }),
+        (1, Reply::Conflicting { front: 0 }),
+    ];
+    for (payload, reply) in cases {
+        let packets = [[0, 0, payload], [1, 0, 0x6162], [0, 1, 0x6300]];
+        let stream = stream_of(rt.alloc(), &packets)?;
+        let (outcome, output) = fetch_of(&rt, rt.alloc(), stream)?;
+        assert_eq!(rt; outcome.end, End::Done);
+        assert_eq!(rt; output.bytes(), b"abc".as_slice());
+        let replies = [
+            reply,
+            Reply::Innovative { at: 0 },
+            Reply::Innovative { at: 1 },
+        ];
+        assert_eq!(rt; outcome.replies.as_slice(), replies.as_slice());
+    }
+    Ok(())
+}
+
+#[test]
+fn packets_of_rank_one_are_incomplete(rt: HostRuntime) -> Result<(), Fail> {
+    let stream = stream_of(rt.alloc(), &[[1, 0, 0x6162], [2, 0, 0xC2C4]])?;
+    let (outcome, output) = fetch_of(&rt, rt.alloc(), stream)?;
+    let end = End::Incomplete {
+        generation: 0,
+        rank: 1,
+    };
+    assert_eq!(rt; outcome.end, end);
+    assert_eq!(rt; outcome.end.status(), 6);
     assert!(rt; output.bytes().is_empty());
-    // The last payload byte but one: the file is `abd`, and its digest another.
-    let mut changed = ABC_STREAM;
-    changed[131] = 0x64;
-    let (end, output) = run_on(&rt, rt.alloc(), "fetch", &changed)?;
-    assert_eq!(rt; end, End::NotBuilt);
+    let replies = [
+        Reply::Innovative { at: 0 },
+        Reply::NotInnovative { front: 1 },
+    ];
+    assert_eq!(rt; outcome.replies.as_slice(), replies.as_slice());
+    Ok(())
+}
+
+// The SHA-256 of `acc`, by the command `sha256sum`.
+const ACC_DIGEST: [u8; 32] = [
+    0x41, 0x43, 0x22, 0x30, 0x9d, 0xb5, 0xc0, 0x6d, 0x09, 0x0a, 0x2e, 0x92, 0x2c, 0xcc, 0x3e, 0x00, 0x70, 0x8c, 0x99, 0x3b, 0x9b, 0x96, 0x40, 0x5d, 0xe1, 0x27, 0xb7, 0xfd, 0x8d, 0xa2, 0xdd, 0x21,
+];
+
+#[test]
+fn another_payload_is_a_mismatch(rt: HostRuntime) -> Result<(), Fail> {
+    let stream = stream_of(rt.alloc(), &[[1, 0, 0x6163], [0, 1, 0x6300]])?;
+    let (outcome, output) = fetch_of(&rt, rt.alloc(), stream)?;
+    assert_eq!(rt; outcome.end, End::Mismatch { found: ACC_DIGEST });
+    assert_eq!(rt; outcome.end.status(), 7);
     assert!(rt; output.bytes().is_empty());
+    assert_eq!(rt; outcome.records.len(), 2);
+    Ok(())
+}
+
+#[test]
+fn a_stream_cut_short_is_not_built(rt: HostRuntime) -> Result<(), Fail> {
+    let mut stream = List::new(rt.alloc());
+    stream.extend_from_slice(&ABC_STREAM[..142])?;
+    let (outcome, output) = fetch_of(&rt, rt.alloc(), stream)?;
+    assert_eq!(rt; outcome.end, End::NotBuilt);
+    assert!(rt; output.bytes().is_empty());
+    assert!(rt; outcome.replies.as_slice().is_empty());
     Ok(())
 }
 
