@@ -1,0 +1,44 @@
+-- Legal histories: when the calls of callers and a list of records can be what one sequential basis answered and kept.
+-- given: for each caller number, the calls of that caller, or nothing where they are not known. records: the records of the
+-- basis, or the first of them.
+use Rattle.std.specs.Prelude.{◌≡◌, ◌≢◌, ℕ, ◌<◌, ◌==◌, Bool, List, [], ◌∷◌, ◌++◌, map, Some}
+use Rattle.std.specs.List.{filter}
+use Rattle.linear_spec.specs.declared.equations.Equations.{Equations}
+use Rattle.linear_spec.specs.declared.record.Record.{Record}
+use Rattle.linear_spec.specs.SequentialBasis.{packets_of}
+use Rattle.basis_core.specs.Calls.{KeptCall, AreInOrder}
+use Rattle.basis_core.specs.Run.{AreAnsweredFrom, records_after}
+use Rattle.basis_core.specs.Merge.{Given, caller_numbers, all_calls, merge_of}
+
+abbrev pub callers_of : List Record → List ℕ
+callers_of records = map (λ record'. record'.caller) records
+
+-- whether the record is of this caller
+abbrev pub is_of : ℕ → Record → Bool
+is_of number record' = record'.caller == number
+
+-- the calls of the given callers, and of every other caller just the offers of its records, are a legal history over the
+-- records: each caller's calls are in order; the merge of all calls is a run of the sequential basis; and the run ends with
+-- these records. So no record is two callers' or two calls'. Where nobody is given it says that each record's packet passes
+-- and is fresh at those before it
+pub record IsLegalHistory (equations : Equations) (given : Given) (records : List Record) : Type 0 where
+  -- given callers have numbers of 32 bits, so that the merge has their calls
+  pub numbers : (number : ℕ) (calls : List KeptCall) → given number ≡ Some calls → number < caller_numbers
+  -- no call of a given caller stands before what that caller had seen
+  pub in_order : (number : ℕ) (calls : List KeptCall) → given number ≡ Some calls → AreInOrder calls
+  -- each call of the merge was answered as the sequential basis does, from the empty basis on
+  pub answered : AreAnsweredFrom equations (merge_of (all_calls given records)) []
+  -- the run ends with the packets of the records, one by one
+  pub packets : packets_of (records_after (merge_of (all_calls given records)) []) ≡ packets_of records
+  -- and with their callers
+  pub callers : callers_of (records_after (merge_of (all_calls given records)) []) ≡ callers_of records
+  -- and a given caller's records are the same there, with the numbers of their calls
+  pub given_calls : (number : ℕ) (calls : List KeptCall) → given number ≡ Some calls
+      → filter (is_of number) (records_after (merge_of (all_calls given records)) []) ≡ filter (is_of number) records
+
+-- of the callers given before, one gains this call as its last, and the others stay
+pub record Gains (before after : Given) (number : ℕ) (call : KeptCall) : Type 0 where
+  pub calls : List KeptCall
+  pub then' : before number ≡ Some calls
+  pub now : after number ≡ Some (calls ++ call ∷ [])
+  pub others : (other : ℕ) → other ≢ number → after other ≡ before other

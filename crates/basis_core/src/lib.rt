@@ -1,0 +1,6 @@
+//! The sequential basis as a machine over calls, and legal histories: what callers of one basis may have been answered.
+#![tactic(auto)]
+
+mod trace;
+
+pub use trace::{Answer, BasisTrace, Call, CallerOffers, CallerTrace, Event, Replayed};
