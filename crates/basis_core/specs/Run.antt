@@ -1,6 +1,7 @@
 -- Runs of the sequential basis over calls of many callers.
 -- caller: who made a call, a number. front: the packets recorded before. earlier: the calls made before.
-use Rattle.std.specs.Prelude.{◌≡◌, ℕ, Bool, ◌==◌, List, [], ◌∷◌, ◌++◌, map, count_by}
+use Rattle.std.specs.Prelude.{◌≡◌, ℕ, Bool, ◌==◌, List, [], ◌∷◌, ◌++◌, length, map}
+use Rattle.std.specs.List.{filter}
 use Rattle.std.specs.Option.{option_to_list}
 use Rattle.linear_spec.specs.declared.equations.Equations.{Equations}
 use Rattle.linear_spec.specs.declared.packet.Packet.{Packet}
@@ -28,7 +29,7 @@ AreAnsweredFrom equations (made ∷ rest) front =
 -- the record of a recording call: its number is the number of earlier calls of its caller
 abbrev pub record_of : CallBy → List CallBy → List Record
 record_of made earlier =
-    map (λ packet. record { caller = made.caller; call = count_by (is_by made.caller) earlier; packet = packet }) (option_to_list (recorded_by made.call))
+    map (λ packet. record { caller = made.caller; call = length (filter (is_by made.caller) earlier); packet = packet }) (option_to_list (recorded_by made.call))
 
 -- the records of calls, after these earlier ones
 abbrev pub records_after : List CallBy → List CallBy → List Record
