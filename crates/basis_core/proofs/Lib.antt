@@ -1,4 +1,6 @@
 pub mod Lists
+pub mod Local
 pub mod Merging
+pub mod Points
 pub mod Runs
 pub mod Worked

@@ -39,6 +39,6 @@ pub record IsLegalHistory (equations : Equations) (given : Given) (records : Lis
 -- of the callers given before, one gains this call as its last, and the others stay
 pub record Gains (before after : Given) (number : ℕ) (call : KeptCall) : Type 0 where
   pub calls : List KeptCall
-  pub then' : before number ≡ Some calls
+  pub had : before number ≡ Some calls
   pub now : after number ≡ Some (calls ++ call ∷ [])
   pub others : (other : ℕ) → other ≢ number → after other ≡ before other
