@@ -1,19 +1,18 @@
 -- What a legal history says of each caller by itself: its calls fit the records. And the records are such that one basis
 -- could have them.
-use Rattle.std.proofs.Common.{◌≡◌, ◌≢◌, ◌⊎◌, inl, inr, ⊎_elim, ℕ, zero, suc, ◌+◌, ◌<◌, ◌≤◌, eqb, Bool, true, false, cond, List, [], ◌∷◌, ◌++◌, map, length, take, Option, Some, None, refl, sym, ap, ◌∙◌, subst, arith}
+use Rattle.std.proofs.Common.{◌≡◌, ℕ, suc, ◌+◌, ◌<◌, eqb, Bool, true, false, cond, List, [], ◌∷◌, map, Option, Some, None, refl, sym, ap, ◌∙◌, subst, arith}
 use Rattle.std.specs.List.{filter, flat_map, range_with_len, AllByRecursion}
 use Rattle.std.specs.Option.{option_to_list}
-use Rattle.std.proofs.lemmas.Bool.{cases_eq, ne_eqb, eq-eqb, eqb-true, eqb-false}
-use Rattle.std.proofs.lemmas.List.{append-nil, append_assoc, map-append}
+use Rattle.std.proofs.lemmas.List.{map-append}
 use Rattle.linear_spec.specs.declared.equations.Equations.{Equations}
 use Rattle.linear_spec.specs.declared.packet.Packet.{Packet}
 use Rattle.linear_spec.specs.declared.record.Record.{Record}
 use Rattle.linear_spec.specs.SequentialBasis.{packets_of}
-use Rattle.basis_core.specs.Calls.{KeptCall, point_of, recorded_by, count_of, AreInOrder}
-use Rattle.basis_core.specs.Run.{CallBy, is_by, AreAnsweredFrom, AreInnovative, records_after}
+use Rattle.basis_core.specs.Calls.{KeptCall, recorded_by, AreInOrder}
+use Rattle.basis_core.specs.Run.{CallBy, is_by, AreInnovative, records_after}
 use Rattle.basis_core.specs.Merge.{Given, caller_numbers, made_by, calls_or, calls_by, own_offers, all_calls, at_point, stands_at, highest_point, merge_of}
 use Rattle.basis_core.specs.Legal.{IsLegalHistory, callers_of, is_of}
-use Rattle.basis_core.proofs.Lists.{each, each-weaker, each-append, each-filter, each-map, each-from_map, each-flat_map, each-range}
+use Rattle.basis_core.proofs.Lists.{each, each-append, each-filter, each-map, each-from_map, each-flat_map, each-range}
 use Rattle.basis_core.proofs.Merging.{own_of_merge}
 use Rattle.basis_core.proofs.Runs.{IsRight, claim_of, claims_of, packets_made, bare, bare_made, own_places, made_places, run_right, run_innovative, places_of_run, packets_after, records_claimed, callers_as_claims}
 

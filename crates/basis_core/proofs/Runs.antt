@@ -1,9 +1,9 @@
 -- Along a run: each call is right at the front of its point, and the records are those that its recording calls claim.
-use Rattle.std.proofs.Common.{◌≡◌, ◌≢◌, ◌⊎◌, inl, inr, ⊎_elim, ℕ, zero, suc, ◌+◌, ◌<◌, ◌≤◌, eqb, Bool, true, false, cond, List, [], ◌∷◌, ◌++◌, map, length, take, Option, Some, None, refl, sym, ap, ◌∙◌, subst, arith}
+use Rattle.std.proofs.Common.{◌≡◌, ℕ, ◌+◌, ◌≤◌, Bool, true, false, cond, List, [], ◌∷◌, ◌++◌, map, length, take, Option, Some, None, refl, sym, ap, ◌∙◌, subst, arith}
 use Rattle.std.specs.List.{filter, flat_map, AllByRecursion}
 use Rattle.std.specs.Option.{option_to_list}
-use Rattle.std.proofs.lemmas.Bool.{cases_eq, ne_eqb, eq-eqb, eqb-true, eqb-false}
-use Rattle.std.proofs.lemmas.List.{append-nil, append_assoc, map-append, length-append, length_push, length-map}
+use Rattle.std.proofs.lemmas.Bool.{eqb-true}
+use Rattle.std.proofs.lemmas.List.{append-nil, append_assoc, map-append, length-append, length_push}
 use Rattle.std.proofs.lemmas.List.Elements.{filter-append}
 use Rattle.std.proofs.Math.Seq.{take-append_seam}
 use Rattle.linear_spec.specs.declared.equations.Equations.{Equations}
@@ -18,7 +18,6 @@ use Rattle.basis_core.specs.Calls.{KeptCall, KeptOffer, KeptDraw, point_of, reco
 use Rattle.basis_core.specs.Run.{CallBy, is_by, AreAnsweredFrom, AreInnovativeFrom, record_of, records_after}
 use Rattle.basis_core.specs.Merge.{made_by}
 use Rattle.basis_core.specs.Legal.{callers_of, is_of}
-use Rattle.basis_core.proofs.Lists.{each-weaker}
 
 -- what a recording call claims: that this packet is its caller's
 abbrev pub claim_of : CallBy → List (ℕ × Packet)

@@ -1,9 +1,8 @@
 -- The definitions at a small example: three callers, with draws before and after the first record.
 use Rattle.std.proofs.Common.{◌≡◌, refl, List, [], ◌∷◌}
 use Rattle.linear_spec.specs.declared.packet.Packet.{Packet}
-use Rattle.linear_spec.specs.declared.record.Record.{Record}
 use Rattle.linear_spec.specs.declared.record.Drawn.TheVariants.{Sent, Nothing}
-use Rattle.linear_spec.specs.declared.reply.Reply.TheVariants.{FailedCheck, Innovative, NotInnovative, Conflicting}
+use Rattle.linear_spec.specs.declared.reply.Reply.TheVariants.{Innovative, NotInnovative, Conflicting}
 use Rattle.basis_core.specs.Calls.{KeptOffer, KeptDraw}
 use Rattle.basis_core.specs.Run.{CallBy, records_after}
 use Rattle.basis_core.specs.Merge.{merge_of, made_by, own_offers}
