@@ -3,7 +3,7 @@ use Rattle.std.proofs.Common.{◌≡◌, ◌≢◌, ⊎_elim, ℕ, zero, suc, �
 use Rattle.std.specs.List.{AllByRecursion}
 use Rattle.std.specs.Option.{option_to_list}
 use Rattle.std.proofs.lemmas.Bool.{cases_eq, ne_eqb, eq-eqb}
-use Rattle.std.proofs.lemmas.List.{append-nil, append_assoc, map_push, length-append, length_push, length-map, take-append-le}
+use Rattle.std.proofs.lemmas.List.{append-nil, append_assoc, map-append, map_push, length-append, length_push, length-map, take-append-le}
 use Rattle.std.proofs.Math.Seq.{take-append_seam}
 use Rattle.linear_spec.specs.declared.equations.Equations.{Equations}
 use Rattle.linear_spec.specs.declared.packet.Packet.{Packet}
@@ -59,8 +59,8 @@ own_push number (x ∷ records) r at =
     elim (is_of number x) as
     (λ b. cond b ((at, x) ∷ own_places number (records ++ r ∷ []) (at + 1)) (own_places number (records ++ r ∷ []) (at + 1))
     ≡ cond b ((at, x) ∷ own_places number records (at + 1)) (own_places number records (at + 1)) ++ cond (is_of number r) ((at + suc (length records), r) ∷ []) []) [
-      true ↦ ap (λ l. (at, x) ∷ l) rest
-    | false ↦ rest
+      | true ↦ ap (λ l. (at, x) ∷ l) rest
+      | false ↦ rest
     ]
 
 innovative_push : (equations : Equations) (packets : List Packet) (packet : Packet) (front : List Packet) → AreInnovativeFrom equations packets front
@@ -219,3 +219,24 @@ nothing_yet equations number below = record {
       (λ ne. absurd (none_is_not cs (sym (ap (λ b. cond b (Some []) None) (ne_eqb number n ne)) ∙ e)))
       (cases_eq number n);
 }
+
+innovative_next : (equations : Equations) (packets : List Packet) (packet : Packet) (rest front : List Packet) → AreInnovativeFrom equations (packets ++ packet ∷ rest) front
+    → Passes equations packet × IsFresh equations.k (front ++ packets) packet
+innovative_next equations [] packet rest front all = (all.0.0, subst (λ f. IsFresh equations.k f packet) (sym (append-nil front)) all.0.1)
+innovative_next equations (p ∷ packets) packet rest front all =
+    let later = innovative_next equations packets packet rest (front ++ p ∷ []) all.1 in
+    (later.0, subst (λ f. IsFresh equations.k f packet) (append_assoc front (p ∷ []) packets) later.1)
+
+-- records of callers that are not given, one after the other
+pub unknown_gains : (equations : Equations) (given : Given) (more records : List Record) → IsLocal equations given records
+    → AreInnovative equations (packets_of (records ++ more)) → AllByRecursion (λ r. (given r.caller ≡ None) × (r.caller < 2 ^ 32)) more
+    → IsLocal equations given (records ++ more)
+unknown_gains equations given [] records local innovative unknown = subst (IsLocal equations given) (sym (append-nil records)) local
+unknown_gains equations given (r ∷ more) records local innovative unknown =
+    let split : packets_of (records ++ r ∷ more) ≡ packets_of records ++ r.packet ∷ packets_of more = map-append (λ r. r.packet) records (r ∷ more) in
+    let facts = innovative_next equations (packets_of records) r.packet (packets_of more) [] (subst (AreInnovative equations) split innovative) in
+    let next : IsNext equations records r = record { passes = facts.0; fresh = facts.1; number = unknown.0.1 } in
+    let joined : (records ++ r ∷ []) ++ more ≡ records ++ r ∷ more = append_assoc records (r ∷ []) more in
+    subst (IsLocal equations given) joined
+    (unknown_gains equations given more (records ++ r ∷ []) (unknown_gain equations records r next given local unknown.0.0)
+    (subst (λ rs. AreInnovative equations (packets_of rs)) (sym joined) innovative) unknown.1)

@@ -4,5 +4,6 @@ pub mod Local
 pub mod Merging
 pub mod Points
 pub mod Runs
+pub mod Told
 pub mod Whole
 pub mod Worked

@@ -32,8 +32,8 @@ module _ {X : Type 0} where
   filter-map t g [] = refl
   filter-map t g (y ∷ ys) =
       elim (t (g y)) as (λ b. cond b (g y ∷ filter t (map g ys)) (filter t (map g ys)) ≡ map g (cond b (y ∷ filter (λ y. t (g y)) ys) (filter (λ y. t (g y)) ys))) [
-        true ↦ ap (λ l. g y ∷ l) (filter-map t g ys)
-      | false ↦ filter-map t g ys
+        | true ↦ ap (λ l. g y ∷ l) (filter-map t g ys)
+        | false ↦ filter-map t g ys
       ]
 
   pub map-flat_map : {Y Z : Type 0} (g : Y → X) (f : Z → List Y) (zs : List Z) → flat_map (λ z. map g (f z)) zs ≡ map g (flat_map f zs)
@@ -66,8 +66,8 @@ module _ {X : Type 0} (P : X → Type 0) where
   each-filter t [] all = tt
   each-filter t (x ∷ xs) all =
       elim (t x) as (λ b. AllByRecursion P (cond b (x ∷ filter t xs) (filter t xs))) [
-        true ↦ (all.0, each-filter t xs all.1)
-      | false ↦ each-filter t xs all.1
+        | true ↦ (all.0, each-filter t xs all.1)
+        | false ↦ each-filter t xs all.1
       ]
 
   pub each-passing : (t : X → Bool) (xs : List X) → ((x : X) → t x ≡ true → P x) → AllByRecursion P (filter t xs)

@@ -47,8 +47,10 @@ same_places number (r ∷ records) (o ∷ others) at callers own =
   where
     heads : r.caller ≡ o.caller
     heads = cc
+
     tails : callers_of records ≡ callers_of others
     tails = cc
+
     go : (b d : Bool) → is_of number r ≡ b → is_of number o ≡ d
         → (filter (is_of number) records ≡ filter (is_of number) others → own_places number records (at + 1) ≡ own_places number others (at + 1))
         → own_places number (r ∷ records) at ≡ own_places number (o ∷ others) at
@@ -69,8 +71,8 @@ places_filter number (r ∷ records) at =
     elim (is_of number r) as
     (λ b. map (λ x. x.1) (cond b ((at, r) ∷ own_places number records (at + 1)) (own_places number records (at + 1)))
     ≡ cond b (r ∷ filter (is_of number) records) (filter (is_of number) records)) [
-      true ↦ ap (λ l. r ∷ l) (places_filter number records (at + 1))
-    | false ↦ places_filter number records (at + 1)
+      | true ↦ ap (λ l. r ∷ l) (places_filter number records (at + 1))
+      | false ↦ places_filter number records (at + 1)
     ]
 
 pub each_of_point : (P : CallBy → Type 0) (calls : List CallBy) → AllByRecursion P calls → (point : ℕ) → AllByRecursion P (at_point calls point)

@@ -38,8 +38,8 @@ points_of_places number (r ∷ records) at =
     elim (is_of number r) as
     (λ b. map without_number (cond b ((at, r) ∷ own_places number records (at + 1)) (own_places number records (at + 1)))
     ≡ cond b ((at, r.packet) ∷ own_points number records (at + 1)) (own_points number records (at + 1))) [
-      true ↦ ap (λ l. (at, r.packet) ∷ l) (points_of_places number records (at + 1))
-    | false ↦ points_of_places number records (at + 1)
+      | true ↦ ap (λ l. (at, r.packet) ∷ l) (points_of_places number records (at + 1))
+      | false ↦ points_of_places number records (at + 1)
     ]
 
 first_point : (number i : ℕ) (c : KeptCall) (o : Option Packet)
@@ -66,8 +66,8 @@ points_of_offers number (r ∷ records) at =
     elim (is_of number r) as
     (λ b. made_points (cond b (KeptOffer 0 r.packet (Innovative at) ∷ own_offers number records (at + 1)) (own_offers number records (at + 1)))
     ≡ cond b ((at, r.packet) ∷ own_points number records (at + 1)) (own_points number records (at + 1))) [
-      true ↦ ap (λ l. (at, r.packet) ∷ l) (points_of_offers number records (at + 1))
-    | false ↦ points_of_offers number records (at + 1)
+      | true ↦ ap (λ l. (at, r.packet) ∷ l) (points_of_offers number records (at + 1))
+      | false ↦ points_of_offers number records (at + 1)
     ]
 
 -- and they are right
@@ -89,8 +89,8 @@ offers_are_right equations number (r ∷ records) front innovative =
     (offers_are_right equations number records (front ++ r.packet ∷ []) innovative.1)) in
     elim (is_of number r) as
     (λ b. AllByRecursion (IsRight equations all) (cond b (call ∷ own_offers number records (length front + 1)) (own_offers number records (length front + 1)))) [
-      true ↦ (right, rest)
-    | false ↦ rest
+      | true ↦ (right, rest)
+      | false ↦ rest
     ]
 
 abbrev pub is_point : ℕ → ℕ × Packet → Bool
@@ -104,8 +104,8 @@ own_append number (x ∷ xs) ys at =
     elim (is_of number x) as
     (λ b. cond b ((at, x.packet) ∷ own_points number (xs ++ ys) (at + 1)) (own_points number (xs ++ ys) (at + 1))
     ≡ cond b ((at, x.packet) ∷ own_points number xs (at + 1)) (own_points number xs (at + 1)) ++ own_points number ys (at + suc (length xs))) [
-      true ↦ ap (λ l. (at, x.packet) ∷ l) rest
-    | false ↦ rest
+      | true ↦ ap (λ l. (at, x.packet) ∷ l) rest
+      | false ↦ rest
     ]
 
 none_here : (number point : ℕ) (xs : List Record) (at : ℕ) → (point < at) ⊎ (at + length xs ≤ point) → filter (is_point point) (own_points number xs at) ≡ []
@@ -116,8 +116,8 @@ none_here number point (x ∷ xs) at outside =
     let rest = none_here number point xs (at + 1) (⊎_elim (λ (h : point < at). inl (omega arith)) (λ (h : at + suc (length xs) ≤ point). inr (omega arith)) outside) in
     elim (is_of number x) as
     (λ b. filter (is_point point) (cond b ((at, x.packet) ∷ own_points number xs (at + 1)) (own_points number xs (at + 1))) ≡ []) [
-      true ↦ rw test rest
-    | false ↦ rest
+      | true ↦ rw test rest
+      | false ↦ rest
     ]
 
 -- the record at a place is the one point of its caller there, and no other caller has one there
@@ -132,8 +132,8 @@ own_here number before after r =
     elim (is_of number r) as
     (λ b. filter (is_point point) (cond b ((point, r.packet) ∷ own_points number after (point + 1)) (own_points number after (point + 1)))
     ≡ cond b ((point, r.packet) ∷ []) []) [
-      true ↦ rw test (ap (λ l. (point, r.packet) ∷ l) later)
-    | false ↦ later
+      | true ↦ rw test (ap (λ l. (point, r.packet) ∷ l) later)
+      | false ↦ later
     ] in
     ap (filter (is_point point)) (own_append number before (r ∷ after) 0 ∙ ap (λ n. own_points number before 0 ++ own_points number (r ∷ after) n) start)
     ∙ filter-append (is_point point) (own_points number before 0) (own_points number (r ∷ after) point)
@@ -168,8 +168,10 @@ point_step point c calls (Some packet) e ih = go (eqb (point_of c) point) refl
   where
     there : List KeptCall
     there = filter (stands_at point 1) calls
+
     first : (cs : List KeptCall) → made_points (c ∷ cs) ≡ (point_of c, packet) ∷ made_points cs
     first cs = rw e refl
+
     go : (b : Bool) → eqb (point_of c) point ≡ b → made_points (filter (stands_at point 1) (c ∷ calls)) ≡ filter (is_point point) (made_points (c ∷ calls))
     go true t =
         let passes : filter (is_point point) ((point_of c, packet) ∷ made_points calls) ≡ (point_of c, packet) ∷ filter (is_point point) (made_points calls) = rw t refl in
