@@ -1,0 +1,8 @@
+use Rattle.basis_core.proofs.Told.{answered_over, once}
+use Rattle.basis_core.proofs.laws.record_laws.callers.Goals as goal
+
+pub returns-clause-answered : goal.returns-clause-answered
+returns-clause-answered c = answered_over
+
+pub returns-clause-once : goal.returns-clause-once
+returns-clause-once c = once

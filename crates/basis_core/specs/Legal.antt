@@ -1,0 +1,56 @@
+-- Legal histories: when the calls of callers and a list of records can be what one sequential basis answered and kept.
+-- given: for each caller number, the calls of that caller, or nothing where they are not known. records: the records of the
+-- basis, or the first of them.
+use Rattle.std.specs.Prelude.{◌≡◌, ◌≢◌, ℕ, ◌<◌, ◌≤◌, ◌^◌, ◌==◌, Bool, List, [], ◌∷◌, ◌++◌, length, map, take, Some}
+use Rattle.std.specs.List.{filter}
+use Rattle.linear_spec.specs.declared.equations.Equations.{Equations}
+use Rattle.linear_spec.specs.declared.record.Record.{Record}
+use Rattle.linear_spec.specs.SequentialBasis.{packets_of}
+use Rattle.linear_spec.specs.Passing.{Passes}
+use Rattle.linear_spec.specs.Cases.{IsFresh}
+use Rattle.basis_core.specs.Calls.{KeptCall, point_of, AreInOrder, IsAnsweredAt}
+use Rattle.basis_core.specs.Run.{AreAnsweredFrom, records_after}
+use Rattle.basis_core.specs.Merge.{Given, caller_numbers, all_calls, merge_of}
+
+abbrev pub callers_of : List Record → List ℕ
+callers_of records = map (λ record'. record'.caller) records
+
+-- whether the record is of this caller
+abbrev pub is_of : ℕ → Record → Bool
+is_of number record' = record'.caller == number
+
+-- the calls of the given callers, and of every other caller just the offers of its records, are a legal history over the
+-- records: each caller's calls are in order; the merge of all calls is a run of the sequential basis; and the run ends with
+-- these records. So no record is two callers' or two calls'. Where nobody is given it says that each record's packet passes
+-- and is fresh at those before it
+pub record IsLegalHistory (equations : Equations) (given : Given) (records : List Record) : Type 0 where
+  -- given callers have numbers of 32 bits, so that the merge has their calls
+  pub numbers : (number : ℕ) (calls : List KeptCall) → given number ≡ Some calls → number < caller_numbers
+  -- no call of a given caller stands before what that caller had seen
+  pub in_order : (number : ℕ) (calls : List KeptCall) → given number ≡ Some calls → AreInOrder calls
+  -- each call of the merge was answered as the sequential basis does, from the empty basis on
+  pub answered : AreAnsweredFrom equations (merge_of (all_calls given records)) []
+  -- the run ends with the packets of the records, one by one
+  pub packets : packets_of (records_after (merge_of (all_calls given records)) []) ≡ packets_of records
+  -- and with their callers
+  pub callers : callers_of (records_after (merge_of (all_calls given records)) []) ≡ callers_of records
+  -- and a given caller's records are the same there, with the numbers of their calls
+  pub given_calls : (number : ℕ) (calls : List KeptCall) → given number ≡ Some calls
+      → filter (is_of number) (records_after (merge_of (all_calls given records)) []) ≡ filter (is_of number) records
+
+-- of the callers that were given, the one of this number, with these calls, gains this call as its last; the others stay
+pub record Gains (before after : Given) (number : ℕ) (calls : List KeptCall) (call : KeptCall) : Type 0 where
+  pub had : before number ≡ Some calls
+  pub now : after number ≡ Some (calls ++ call ∷ [])
+  pub others : (other : ℕ) → other ≢ number → after other ≡ before other
+
+-- an answer that recorded nothing is the sequential one over these records: at its point, which they reach
+pub record IsAnsweredOver (equations : Equations) (records : List Record) (call : KeptCall) : Type 0 where
+  pub within : point_of call ≤ length records
+  pub answered : IsAnsweredAt equations (take (point_of call) (packets_of records)) call
+
+-- the packet passes and is fresh at these records, and the caller's number has 32 bits: so the basis records it next
+pub record IsNext (equations : Equations) (records : List Record) (record' : Record) : Type 0 where
+  pub passes : Passes equations record'.packet
+  pub fresh : IsFresh equations.k (packets_of records) record'.packet
+  pub number : record'.caller < 2 ^ 32

@@ -1,0 +1,4 @@
+pub mod Calls
+pub mod Legal
+pub mod Merge
+pub mod Run

@@ -1,0 +1,6 @@
+//! Laws over the definitions alone: each is the contract of a function that does nothing but take other laws.
+mod history_laws;
+mod record_laws;
+
+pub use history_laws::histories;
+pub use record_laws::{callers, records};
