@@ -7,3 +7,4 @@ pub mod Runs
 pub mod Told
 pub mod Whole
 pub mod Worked
+pub mod Steps

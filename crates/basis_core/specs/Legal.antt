@@ -8,7 +8,8 @@ use Rattle.linear_spec.specs.declared.record.Record.{Record}
 use Rattle.linear_spec.specs.SequentialBasis.{packets_of}
 use Rattle.linear_spec.specs.Passing.{Passes}
 use Rattle.linear_spec.specs.Cases.{IsFresh}
-use Rattle.basis_core.specs.Calls.{KeptCall, point_of, AreInOrder, IsAnsweredAt}
+use Rattle.std.specs.Option.{option_to_list}
+use Rattle.basis_core.specs.Calls.{KeptCall, point_of, recorded_by, seen_after, AreInOrder, IsAnsweredAt}
 use Rattle.basis_core.specs.Run.{AreAnsweredFrom, records_after}
 use Rattle.basis_core.specs.Merge.{Given, caller_numbers, all_calls, merge_of}
 
@@ -54,3 +55,12 @@ pub record IsNext (equations : Equations) (records : List Record) (record' : Rec
   pub passes : Passes equations record'.packet
   pub fresh : IsFresh equations.k (packets_of records) record'.packet
   pub number : record'.caller < 2 ^ 32
+
+-- none of the calls has seen more than so many records
+abbrev pub HaveSeenAtMost : ℕ → List KeptCall → Type 0
+HaveSeenAtMost n [] = Unit {0}
+HaveSeenAtMost n (call ∷ calls) = (seen_after call ≤ n) × HaveSeenAtMost n calls
+
+-- the record that a caller's call of this number adds, if it recorded
+abbrev pub record_by : ℕ → ℕ → KeptCall → List Record
+record_by caller number call = map (λ packet. record { caller = caller; call = number; packet = packet }) (option_to_list (recorded_by call))
