@@ -1,19 +1,21 @@
 -- What `fetch` does with its input.
--- input: the bytes that a source has left, where it tells them. contents: what a first stream holds. replies: one to each
--- of its packets, in order. records: the packets of these that were kept. rank: that of the packets' coefficients.
+-- input: the bytes that a source has left, where it tells them. contents: what a first stream holds. rank: that of the
+-- packets' coefficients. bases: what is kept of the basis of each generation.
 use Rattle.std.specs.Prelude.{◌≡◌, ◌≢◌, ◌≤◌, ◌<◌, ℕ, List, [], ◌∷◌, length, Option, IfSome, codes}
+use Rattle.std.specs.List.{flat_map}
 use Rattle.std.specs.Io.KnownBytes.{Appends}
 use Rattle.sha2.specs.Sha256.{sha256}
-use Rattle.linear_spec.specs.declared.packet.Packet.{Packet}
-use Rattle.linear_spec.specs.declared.reply.Reply.{Reply}
 use Rattle.linear_spec.specs.Packet.{coefficients_of}
 use Rattle.linear_spec.specs.Span.{HasRank}
-use Rattle.linear_spec.specs.SequentialBasis.{IsReceived}
+use Rattle.linear_spec.specs.SequentialBasis.{packets_of}
 use Rattle.linear_spec.specs.Solving.{Solves}
+use Rattle.basis_core.specs.declared.trace.BasisTrace.{BasisTrace}
 use Rattle.swarm_io.specs.Moved.{AppendsPrefix}
-use Rattle.generation.specs.Shape.{symbols_per_block}
+use Rattle.generation.specs.Shape.{Dimensions, symbols_per_block}
 use Rattle.generation.specs.Blocks.{file_of}
 use Rattle.packet_wire.specs.Stream.{Contents, IsFirstStream}
+use Rattle.avalanche_cli.specs.Trace.{IsLegalFetch}
+use Rattle.avalanche_cli.specs.declared.trace.Trace.{Trace}
 use Rattle.avalanche_cli.specs.declared.end.End.{End}
 use Rattle.avalanche_cli.specs.declared.end.End.TheVariants.{Done, ReadFault, WriteFault, Incomplete, Mismatch, Memory, NotBuilt}
 
@@ -45,49 +47,72 @@ pub record Holds (input : Option (List ℕ)) (contents : Contents) : Type 0 wher
 
 -- ---- what the packets of a stream tell
 
--- the packets, received in turn by the sequential basis, have these replies, and these are recorded
-abbrev pub AreReceived : Contents → List Reply → List Packet → Type 0
-AreReceived contents replies records =
-    IsReceived contents.manifest.shape.k (symbols_per_block contents.manifest.shape) contents.packets replies records
+-- the number of receivers that the packets are dealt to
+abbrev pub receivers : ℕ
+receivers = 2
 
 -- the rank of the packets' coefficients
 abbrev pub HasPacketRank : Contents → ℕ → Type 0
 HasPacketRank contents rank = HasRank contents.manifest.shape.k (coefficients_of contents.packets) rank
 
--- the file of a first stream: as many packets are recorded as there are blocks, and it is the file of the blocks that solve
--- them
-pub record IsFileOf (contents : Contents) (file : List ℕ) : Type 0 where
-  pub replies : List Reply
-  pub records : List Packet
-  pub received : AreReceived contents replies records
-  pub full : length records ≡ contents.manifest.shape.k
-  pub blocks : List (List ℕ)
-  pub solve : Solves contents.manifest.shape.k (symbols_per_block contents.manifest.shape) records blocks
-  pub file_is : file ≡ file_of contents.manifest.shape blocks
+-- these blocks, a list for each basis, solve its records, which are as many as a generation has blocks
+abbrev pub SolveEach : ℕ → ℕ → List BasisTrace → List (List (List ℕ)) → Type 0
+SolveEach k s [] [] = Unit {0}
+SolveEach k s [] (blocks ∷ more) = ⊥
+SolveEach k s (basis ∷ bases) [] = ⊥
+SolveEach k s (basis ∷ bases) (blocks ∷ more) =
+    (length basis.records.items ≡ k) × (Solves k s (packets_of basis.records.items) blocks × SolveEach k s bases more)
+
+-- the file of the bases of a stream: of the blocks that solve them, generation after generation
+pub record IsFileOf (shape : Dimensions) (bases : List BasisTrace) (file : List ℕ) : Type 0 where
+  pub blocks : List (List (List ℕ))
+  pub solve : SolveEach shape.k (symbols_per_block shape) bases blocks
+  pub file_is : file ≡ file_of shape (flat_map (λ generation. generation) blocks)
 
 -- ---- what a run tells of its input
 
--- the input is a first stream whose file is this one and no other, as long as its manifest says; the manifest's digest is
--- this
-pub record HasFile (input : Option (List ℕ)) (digest file : List ℕ) : Type 0 where
+-- the input is a first stream, and the trace is a legal one of its packets
+pub record IsTraceOf (input : Option (List ℕ)) (trace : Trace) : Type 0 where
   pub contents : Contents
   pub holds : Holds input contents
+  pub legal : IsLegalFetch receivers contents trace
+
+-- the input is a first stream of full rank with this digest in its manifest; the trace is a legal one of its packets, and
+-- its bases have this file and no other, as long as the manifest says
+pub record HasFile (input : Option (List ℕ)) (trace : Trace) (digest file : List ℕ) : Type 0 where
+  pub contents : Contents
+  pub holds : Holds input contents
+  pub full : HasPacketRank contents contents.manifest.shape.k
+  pub legal : IsLegalFetch receivers contents trace
   pub digest_is : contents.manifest.digest ≡ digest
-  pub is : IsFileOf contents file
-  pub only : (other : List ℕ) → IsFileOf contents other → other ≡ file
+  pub is : IsFileOf contents.manifest.shape trace.bases.items file
+  pub only : (other : List ℕ) → IsFileOf contents.manifest.shape trace.bases.items other → other ≡ file
   pub length_is : length file ≡ contents.manifest.shape.len
 
--- the file is the input's, with the digest that the manifest says, and the output gained it
-pub record Gives (input output-before output-now : Option (List ℕ)) : Type 0 where
+-- the file has the digest that the manifest says, and the output gained it
+pub record Gives (input : Option (List ℕ)) (trace : Trace) (output-before output-now : Option (List ℕ)) : Type 0 where
   pub file : List ℕ
-  pub has : HasFile input (sha256 file) file
+  pub has : HasFile input trace (sha256 file) file
   pub gained : Appends output-before output-now file
 
 -- the same, but the output gained only a prefix of it
-pub record GivesPrefix (input output-before output-now : Option (List ℕ)) : Type 0 where
+pub record GivesPrefix (input : Option (List ℕ)) (trace : Trace) (output-before output-now : Option (List ℕ)) : Type 0 where
   pub file : List ℕ
-  pub has : HasFile input (sha256 file) file
+  pub has : HasFile input trace (sha256 file) file
   pub gained : AppendsPrefix output-before output-now file
+
+-- the same for some trace, which is not kept
+pub record MayGive (input output-before output-now : Option (List ℕ)) : Type 0 where
+  pub trace : Trace
+  pub gives : GivesPrefix input trace output-before output-now
+
+-- the file has this digest, and the manifest says another
+pub record HasOtherDigest (input : Option (List ℕ)) (trace : Trace) (found : List ℕ) : Type 0 where
+  pub digest : List ℕ
+  pub file : List ℕ
+  pub has : HasFile input trace digest file
+  pub found_is : found ≡ sha256 file
+  pub differs : found ≢ digest
 
 -- the packets of the input have this rank, which is too low
 pub record LacksRank (input : Option (List ℕ)) (rank : ℕ) : Type 0 where
@@ -96,26 +121,17 @@ pub record LacksRank (input : Option (List ℕ)) (rank : ℕ) : Type 0 where
   pub rank_is : HasPacketRank contents rank
   pub below : rank < contents.manifest.shape.k
 
--- the input's file has this digest, and the manifest says another
-pub record HasOtherDigest (input : Option (List ℕ)) (found : List ℕ) : Type 0 where
-  pub digest : List ℕ
-  pub file : List ℕ
-  pub has : HasFile input digest file
-  pub found_is : found ≡ sha256 file
-  pub differs : found ≢ digest
+-- nothing is kept
+pub record IsEmptyTrace (trace : Trace) : Type 0 where
+  pub bases : trace.bases.items ≡ []
+  pub sends : trace.sends.items ≡ []
 
--- these are the replies to the input's packets, and the packets that were recorded
-pub record ReceivedAll (input : Option (List ℕ)) (replies : List Reply) (records : List Packet) : Type 0 where
-  pub contents : Contents
-  pub holds : Holds input contents
-  pub received : AreReceived contents replies records
-
--- what is kept of a run that ends so: where the packets were judged, all replies and records, and else none
-abbrev pub IsKept : End → Option (List ℕ) → List Reply → List Packet → Type 0
-IsKept Done input replies records = ReceivedAll input replies records
-IsKept WriteFault input replies records = ReceivedAll input replies records
-IsKept (Incomplete generation rank) input replies records = ReceivedAll input replies records
-IsKept (Mismatch found) input replies records = ReceivedAll input replies records
-IsKept ReadFault input replies records = (replies ≡ []) × (records ≡ [])
-IsKept Memory input replies records = (replies ≡ []) × (records ≡ [])
-IsKept NotBuilt input replies records = (replies ≡ []) × (records ≡ [])
+-- what is kept of a run that ends so: where the packets were judged a legal trace, and else none
+abbrev pub IsKept : End → Option (List ℕ) → Trace → Type 0
+IsKept Done input trace = IsTraceOf input trace
+IsKept WriteFault input trace = IsTraceOf input trace
+IsKept (Incomplete generation rank) input trace = IsTraceOf input trace
+IsKept (Mismatch found) input trace = IsTraceOf input trace
+IsKept ReadFault input trace = IsEmptyTrace trace
+IsKept Memory input trace = IsEmptyTrace trace
+IsKept NotBuilt input trace = IsEmptyTrace trace

@@ -3,22 +3,22 @@
 -- the counts of the input's faults, of the output's faults and of the output's wants rose.
 use Rattle.std.specs.Prelude.{◌≡◌, ◌⊎◌, ℕ, List, Option, IfSome, Result}
 use Rattle.std.specs.Io.KnownBytes.{Appends}
-use Rattle.linear_spec.specs.declared.packet.Packet.{Packet}
-use Rattle.linear_spec.specs.declared.reply.Reply.{Reply}
 use Rattle.linear_spec.specs.List.{ListValue}
 use Rattle.swarm_io.specs.Moved.{AppendsPrefix}
 use Rattle.packet_wire.specs.Stream.{Contents}
-use Rattle.avalanche_cli.specs.Fetch.{AreReceived, Gives, GivesPrefix, HasOtherDigest, Holds, IsUnfetchable, LacksRank}
+use Rattle.avalanche_cli.specs.Fetch.{Gives, GivesPrefix, HasOtherDigest, Holds, IsUnfetchable, MayGive, LacksRank, receivers}
 use Rattle.avalanche_cli.specs.Reception.{IsJudged}
+use Rattle.avalanche_cli.specs.Trace.{IsLegalFetch}
+use Rattle.avalanche_cli.specs.declared.trace.Trace.{Trace}
 use Rattle.avalanche_cli.specs.declared.end.End.{End}
 use Rattle.avalanche_cli.specs.declared.end.End.TheVariants.{Done, ReadFault, WriteFault, Incomplete, Mismatch, Memory, NotBuilt}
 
 -- the input is a first stream, its packets were received, and this is told of it
-pub record IsReceptionOf (input : Option (List ℕ)) (replies : List Reply) (records : List Packet) (file : Result (ListValue ℕ) End) : Type 0 where
+pub record IsReceptionOf (input : Option (List ℕ)) (trace : Trace) (file : Result (ListValue ℕ) End) : Type 0 where
   pub contents : Contents
   pub holds : Holds input contents
-  pub received : AreReceived contents replies records
-  pub judged : IsJudged contents file
+  pub legal : IsLegalFetch receivers contents trace
+  pub judged : IsJudged contents trace file
 
 -- why no stream was received
 abbrev pub IsRefusal : Option (List ℕ) → Type 0 → End → Type 0
@@ -41,11 +41,11 @@ IsWritten file before now Unwritten Unheld Memory = AppendsPrefix before now fil
 IsWritten file before now Unwritten Unheld NotBuilt = ⊥
 
 -- how a fetch ends
-abbrev pub IsEnd : Option (List ℕ) → Option (List ℕ) → Option (List ℕ) → Type 0 → Type 0 → Type 0 → Type 0 → End → Type 0
-IsEnd input before now Same Unread Unwritten Unheld Done = Gives input before now
-IsEnd input before now Same Unread Unwritten Unheld ReadFault = Same × Unread
-IsEnd input before now Same Unread Unwritten Unheld WriteFault = GivesPrefix input before now × Unwritten
-IsEnd input before now Same Unread Unwritten Unheld (Incomplete generation rank) = Same × ((generation ≡ 0) × LacksRank input rank)
-IsEnd input before now Same Unread Unwritten Unheld (Mismatch found) = Same × HasOtherDigest input found
-IsEnd input before now Same Unread Unwritten Unheld Memory = Same ⊎ (GivesPrefix input before now × Unheld)
-IsEnd input before now Same Unread Unwritten Unheld NotBuilt = Same × IfSome input IsUnfetchable
+abbrev pub IsEnd : Option (List ℕ) → Trace → Option (List ℕ) → Option (List ℕ) → Type 0 → Type 0 → Type 0 → Type 0 → End → Type 0
+IsEnd input trace before now Same Unread Unwritten Unheld Done = Gives input trace before now
+IsEnd input trace before now Same Unread Unwritten Unheld ReadFault = Same × Unread
+IsEnd input trace before now Same Unread Unwritten Unheld WriteFault = GivesPrefix input trace before now × Unwritten
+IsEnd input trace before now Same Unread Unwritten Unheld (Incomplete generation rank) = Same × ((generation ≡ 0) × LacksRank input rank)
+IsEnd input trace before now Same Unread Unwritten Unheld (Mismatch found) = Same × HasOtherDigest input trace found
+IsEnd input trace before now Same Unread Unwritten Unheld Memory = Same ⊎ (MayGive input before now × Unheld)
+IsEnd input trace before now Same Unread Unwritten Unheld NotBuilt = Same × IfSome input IsUnfetchable

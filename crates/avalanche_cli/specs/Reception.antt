@@ -9,6 +9,7 @@ use Rattle.generation.specs.Blocks.{file_of}
 use Rattle.packet_wire.specs.declared.manifest.Manifest.{Manifest}
 use Rattle.packet_wire.specs.Stream.{Contents}
 use Rattle.avalanche_cli.specs.Fetch.{HasPacketRank, IsFileOf}
+use Rattle.avalanche_cli.specs.declared.trace.Trace.{Trace}
 use Rattle.avalanche_cli.specs.declared.end.End.{End}
 use Rattle.avalanche_cli.specs.declared.end.End.TheVariants.{Done, ReadFault, WriteFault, Incomplete, Mismatch, Memory, NotBuilt}
 
@@ -38,31 +39,32 @@ IsStop manifest records (Mismatch found) = HasWrongDigest manifest records found
 IsStop manifest records Memory = Unit {0}
 IsStop manifest records NotBuilt = ⊥
 
--- this is the stream's file, and no other is
-pub record IsOnlyFileOf (contents : Contents) (file : List ℕ) : Type 0 where
-  pub is : IsFileOf contents file
-  pub only : (other : List ℕ) → IsFileOf contents other → other ≡ file
+-- the packets have full rank, and this is the file of the bases and no other is
+pub record IsOnlyFileOf (contents : Contents) (trace : Trace) (file : List ℕ) : Type 0 where
+  pub full : HasPacketRank contents contents.manifest.shape.k
+  pub is : IsFileOf contents.manifest.shape trace.bases.items file
+  pub only : (other : List ℕ) → IsFileOf contents.manifest.shape trace.bases.items other → other ≡ file
   pub length_is : length file ≡ contents.manifest.shape.len
 
 -- a file with the manifest's digest
-pub record IsGoodFile (contents : Contents) (file : List ℕ) : Type 0 where
-  pub is_file : IsOnlyFileOf contents file
+pub record IsGoodFile (contents : Contents) (trace : Trace) (file : List ℕ) : Type 0 where
+  pub is_file : IsOnlyFileOf contents trace file
   pub digest : sha256 file ≡ contents.manifest.digest
 
 -- a file with another digest, which is this
-pub record IsBadFile (contents : Contents) (found : List ℕ) : Type 0 where
+pub record IsBadFile (contents : Contents) (trace : Trace) (found : List ℕ) : Type 0 where
   pub file : List ℕ
-  pub is_file : IsOnlyFileOf contents file
+  pub is_file : IsOnlyFileOf contents trace file
   pub found_is : found ≡ sha256 file
   pub differs : found ≢ contents.manifest.digest
 
 -- what is told of a stream: its file, or why it gives none
-abbrev pub IsJudged : Contents → Result (ListValue ℕ) End → Type 0
-IsJudged contents (Ok file) = IsGoodFile contents file.items
-IsJudged contents (Err Done) = ⊥
-IsJudged contents (Err ReadFault) = ⊥
-IsJudged contents (Err WriteFault) = ⊥
-IsJudged contents (Err (Incomplete generation rank)) = (generation ≡ 0) × HasPacketRank contents rank × (rank < contents.manifest.shape.k)
-IsJudged contents (Err (Mismatch found)) = IsBadFile contents found
-IsJudged contents (Err Memory) = Unit {0}
-IsJudged contents (Err NotBuilt) = ⊥
+abbrev pub IsJudged : Contents → Trace → Result (ListValue ℕ) End → Type 0
+IsJudged contents trace (Ok file) = IsGoodFile contents trace file.items
+IsJudged contents trace (Err Done) = ⊥
+IsJudged contents trace (Err ReadFault) = ⊥
+IsJudged contents trace (Err WriteFault) = ⊥
+IsJudged contents trace (Err (Incomplete generation rank)) = (generation ≡ 0) × HasPacketRank contents rank × (rank < contents.manifest.shape.k)
+IsJudged contents trace (Err (Mismatch found)) = IsBadFile contents trace found
+IsJudged contents trace (Err Memory) = Unit {0}
+IsJudged contents trace (Err NotBuilt) = ⊥

@@ -5,7 +5,9 @@ mod end;
 mod fetch;
 mod outcome;
 mod program;
+mod receivers;
 mod reception;
+mod trace;
 
 pub use end::End;
 use linear_spec::Words;
@@ -16,6 +18,7 @@ use std::io::{self, ErrorKind};
 use std::process::ExitCode;
 use std::rt::Env;
 use swarm_io::{StdSink, StdSource};
+pub use trace::{SendEntry, Trace};
 
 fn main(rt: HostRuntime) -> ExitCode {
     let end = match words_of(&rt) {

@@ -1,29 +1,29 @@
 ghost use Rattle.std.specs.Prelude.{◌≡◌, []};
 
-use crate::End;
-use linear_spec::{List, Packet, Reply};
+use crate::{End, Trace};
+use linear_spec::List;
 use std::alloc::Global;
 
-/// What a run did: how it ended, what it answered to each packet of the stream in order, and the packets that it
-/// recorded. Where the end says nothing of the packets, both lists are empty.
+/// What a run did: how it ended, and the calls on its bases. Where the end says nothing of the packets, the trace is empty.
 #[derive(Debug, Drop)]
 pub struct Outcome {
     pub end: End,
-    pub replies: List<Reply>,
-    pub records: List<Packet>,
+    pub trace: Trace,
 }
 
 impl Outcome {
-    /// An outcome with no replies and no records.
-    pub(crate) fn without_packets(alloc: Global, end: End) -> Outcome
+    /// An outcome with an empty trace.
+    pub(crate) fn without_trace(alloc: Global, end: End) -> Outcome
         ensures end { result.end ≡ end }
-        ensures replies { result.replies.items ≡ [] }
-        ensures records { result.records.items ≡ [] }
+        ensures bases { result.trace.bases.items ≡ [] }
+        ensures sends { result.trace.sends.items ≡ [] }
     {
         Outcome {
             end,
-            replies: List::new(alloc),
-            records: List::new(alloc),
+            trace: Trace {
+                bases: List::new(alloc),
+                sends: List::new(alloc),
+            },
         }
     }
 }

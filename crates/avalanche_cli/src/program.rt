@@ -1,10 +1,9 @@
-ghost use Rattle.std.specs.Prelude.{◌≡◌, ◌≢◌, ◌⊎◌, ◌+◌, ◌≤◌, ◌<◌, ◌↔◌, ℕ, List as list, IfSome, IsTrue};
+ghost use Rattle.std.specs.Prelude.{◌≡◌, ◌⊎◌, ◌+◌, ◌≤◌, ◌<◌, ◌↔◌, ℕ, List as list, IfSome, IsTrue};
 ghost use Rattle.std.specs.Io.KnownBytes.{IsAtEnd};
-ghost use Rattle.sha2.specs.Sha256.{sha256};
 ghost use Rattle.swarm_io.specs.Counts.{Rose};
 ghost use Rattle.swarm_io.specs.Moved.{TakesAtMost};
 ghost use Rattle.packet_wire.specs.Stream.{Contents};
-ghost use Rattle.avalanche_cli.specs.Fetch.{Gives, GivesPrefix, HasOtherDigest, HasPacketRank, IsFetch, IsFetchable, IsFileOf, IsKept, IsUnfetchable, LacksRank, stream_limit};
+ghost use Rattle.avalanche_cli.specs.Fetch.{Gives, GivesPrefix, HasOtherDigest, HasPacketRank, IsFetch, IsFetchable, IsKept, IsUnfetchable, LacksRank, MayGive, stream_limit};
 
 use crate::fetch::fetch;
 use crate::{End, Outcome};
@@ -28,23 +27,23 @@ pub fn run<R: Threads + Sync, I: Source, O: Sink, E: Sink>(
     ensures other_words { ¬ IsFetch words.now
         → (result.end ≡ End.NotBuilt) × (input.new ≡ input.old) × (output.new ≡ output.old) }
 
-    // What was answered to the packets, and which were recorded.
-    ensures kept { IsKept result.end (I.remaining input.old) result.replies.items result.records.items }
+    // The calls on the bases, and their records.
+    ensures kept { IsKept result.end (I.remaining input.old) result.trace }
 
-    // Done: the output gained the file of the input, which has the digest that its manifest says.
-    ensures done { result.end ≡ End.Done → Gives (I.remaining input.old) (O.contents output.old) (O.contents output.new) }
+    // Done: the output gained the file of the bases, which has the digest that the manifest says.
+    ensures done { result.end ≡ End.Done
+        → Gives (I.remaining input.old) result.trace (O.contents output.old) (O.contents output.new) }
     ensures done_reads_all { result.end ≡ End.Done → IsAtEnd (I.remaining input.new) }
-    ensures complete { IsFetch words.now → IfSome (I.remaining input.old) (λ bytes. (contents : Contents) (file : list ℕ)
-        → IsFetchable bytes contents → IsFileOf contents file → sha256 file ≡ contents.manifest.digest
-        → ¬ Rose (I.faults input.old) (I.faults input.new) → ¬ Rose (O.faults output.old) (O.faults output.new)
-        → (result.end ≡ End.Done) ⊎ (result.end ≡ End.Memory)) }
 
-    // Mismatch: exactly where the file has another digest, unless a fault came or memory was wanted.
-    ensures mismatch { (found : list ℕ) → result.end ≡ End.Mismatch found → HasOtherDigest (I.remaining input.old) found }
-    ensures other_digest { IsFetch words.now → IfSome (I.remaining input.old) (λ bytes. (contents : Contents) (file : list ℕ)
-        → IsFetchable bytes contents → IsFileOf contents file → sha256 file ≢ contents.manifest.digest
-        → ¬ Rose (I.faults input.old) (I.faults input.new)
-        → (result.end ≡ End.Mismatch (sha256 file)) ⊎ (result.end ≡ End.Memory)) }
+    // Mismatch: the file has another digest.
+    ensures mismatch { (found : list ℕ) → result.end ≡ End.Mismatch found
+        → HasOtherDigest (I.remaining input.old) result.trace found }
+
+    // A stream of full rank ends in one of these two, unless a fault came or memory was wanted.
+    ensures full_rank { IsFetch words.now → IfSome (I.remaining input.old) (λ bytes. (contents : Contents)
+        → IsFetchable bytes contents → HasPacketRank contents contents.manifest.shape.k
+        → ¬ Rose (I.faults input.old) (I.faults input.new) → ¬ Rose (O.faults output.old) (O.faults output.new)
+        → (result.end ≡ End.Done) ⊎ (((found : list ℕ) × (result.end ≡ End.Mismatch found)) ⊎ (result.end ≡ End.Memory))) }
 
     // Incomplete: exactly where the packets' rank is too low, unless a fault came or memory was wanted.
     ensures incomplete { (generation rank : ℕ) → result.end ≡ End.Incomplete generation rank
@@ -70,9 +69,9 @@ pub fn run<R: Threads + Sync, I: Source, O: Sink, E: Sink>(
     ensures incomplete_writes_nothing { (generation rank : ℕ) → result.end ≡ End.Incomplete generation rank → output.new ≡ output.old }
     ensures mismatch_writes_nothing { (found : list ℕ) → result.end ≡ End.Mismatch found → output.new ≡ output.old }
     ensures write_fault_leaves_prefix { result.end ≡ End.WriteFault
-        → GivesPrefix (I.remaining input.old) (O.contents output.old) (O.contents output.new) }
+        → GivesPrefix (I.remaining input.old) result.trace (O.contents output.old) (O.contents output.new) }
     ensures memory_leaves { result.end ≡ End.Memory
-        → (output.new ≡ output.old) ⊎ (GivesPrefix (I.remaining input.old) (O.contents output.old) (O.contents output.new)
+        → (output.new ≡ output.old) ⊎ (MayGive (I.remaining input.old) (O.contents output.old) (O.contents output.new)
         × Rose (O.wants output.old) (O.wants output.new)) }
 
     // Counts never fall, and no more is read than the limit and one byte.
@@ -84,10 +83,9 @@ pub fn run<R: Threads + Sync, I: Source, O: Sink, E: Sink>(
     ensures errors_untouched { errors.new ≡ errors.old }
 {
     if !is_fetch(words) {
-        return Outcome::without_packets(alloc, End::NotBuilt);
+        return Outcome::without_trace(alloc, End::NotBuilt);
     }
     let outcome = fetch(alloc, input, output);
-    linear_spec::laws::reception();
     linear_spec::laws::ranks();
     outcome
 }

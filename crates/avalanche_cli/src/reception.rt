@@ -1,29 +1,28 @@
 //! The packets of a stream, received in turn, and the file that they determine.
-ghost use Rattle.std.specs.Prelude.{◌≡◌, ◌≢◌, [], length, IfOk, IfErr};
+ghost use Rattle.std.specs.Prelude.{◌≡◌, ◌≢◌, ◌<◌, ◌^◌, length, IfOk, IfErr};
 ghost use Rattle.std.specs.List.{All};
 ghost use Rattle.sha2.specs.Sha256.{sha256};
-ghost use Rattle.linear_spec.specs.Packet.{Fits};
-ghost use Rattle.linear_spec.specs.SequentialBasis.{IsReceived};
 ghost use Rattle.generation.specs.Shape.{generations_of, symbols_per_block};
 ghost use Rattle.packet_wire.specs.Stream.{IsPacket, contents_of};
-ghost use Rattle.avalanche_cli.specs.Fetch.{AreReceived};
+ghost use Rattle.avalanche_cli.specs.Fetch.{receivers};
 ghost use Rattle.avalanche_cli.specs.Reception.{IsJudged, IsSolvedFile, IsStop};
+ghost use Rattle.avalanche_cli.specs.Trace.{IsLegalFetch};
 
-use crate::End;
+use crate::receivers::receive_all;
+use crate::{End, Trace};
 use generation::Shape;
 use gf16::Memory;
-use linear_spec::{List, Packet, Reply};
+use linear_spec::List;
 use packet_wire::{Manifest, Stream};
 use plain_basis::PlainBasis;
 use sha2::{Digest, Sha256};
 use std::alloc::Global;
 
-/// What receiving the packets of a stream gave: the reply to each, the packets recorded, and the file with the manifest's
-/// digest, or why there is none.
+/// What receiving the packets of a stream gave: the calls and records, and the file with the manifest's digest, or why
+/// there is none.
 #[derive(Debug, Drop)]
 pub(crate) struct Reception {
-    pub replies: List<Reply>,
-    pub records: List<Packet>,
+    pub trace: Trace,
     pub file: Result<List<u8>, End>,
 }
 
@@ -31,52 +30,22 @@ pub(crate) struct Reception {
 pub(crate) fn receive(alloc: Global, stream: &Stream) -> Result<Reception, Memory>
     requires generations { generations_of stream.now.manifest.shape ≡ 1 }
     requires packets { All (IsPacket stream.now.manifest.shape) stream.now.packets.items }
-    ensures received { IfOk result (λ r. AreReceived (contents_of stream.now) r.replies.items r.records.items) }
-    ensures judged { IfOk result (λ r. IsJudged (contents_of stream.now) r.file) }
+    requires few { length stream.now.packets.items < 2 ^ 32 }
+    ensures legal { IfOk result (λ r. IsLegalFetch receivers (contents_of stream.now) r.trace) }
+    ensures judged { IfOk result (λ r. IsJudged (contents_of stream.now) r.trace r.file) }
 {
     let shape = stream.manifest.shape;
     let mut basis = PlainBasis::new(alloc, shape.k(), shape.symbols_per_block());
-    let replies = offer_all(alloc, &mut basis, &stream.packets)?;
-    let records = copies(alloc, basis.records())?;
+    let received = receive_all(alloc, &mut basis, &stream.packets)?;
     let file = solved(alloc, &stream.manifest, &basis);
     linear_spec::laws::reception();
-    Ok(Reception {
-        replies,
-        records,
-        file,
-    })
-}
-
-/// Offers packets to an empty basis, one after another.
-fn offer_all(
-    alloc: Global,
-    basis: &mut PlainBasis,
-    packets: &List<Packet>,
-) -> Result<List<Reply>, Memory>
-    requires empty { basis.old.packets ≡ [] }
-    requires fit { All (Fits basis.old.k basis.old.s) packets.now.items }
-    ensures received { IfOk result (λ replies. IsReceived basis.old.k basis.old.s packets.now.items replies.items basis.new.packets) }
-    ensures same_shape { (basis.new.k ≡ basis.old.k) × (basis.new.s ≡ basis.old.s) }
-{
-    let mut replies = List::new(alloc);
-    linear_spec::laws::reception();
-    for packet in packets.as_slice() {
-        let reply = basis.offer(packet.copy(alloc)?)?;
-        linear_spec::laws::reception();
-        replies.push(reply)?;
-    }
-    Ok(replies)
-}
-
-/// Equal packets.
-fn copies(alloc: Global, packets: &List<Packet>) -> Result<List<Packet>, Memory>
-    ensures { IfOk result (λ copies. copies.items ≡ packets.now.items) }
-{
-    let mut copies = List::new(alloc);
-    for packet in packets.as_slice() {
-        copies.push(packet.copy(alloc)?)?;
-    }
-    Ok(copies)
+    let mut bases = List::new(alloc);
+    bases.push(received)?;
+    let trace = Trace {
+        bases,
+        sends: List::new(alloc),
+    };
+    Ok(Reception { trace, file })
 }
 
 /// The file of the records of a generation that is the whole file, where they solve and it has the manifest's digest.

@@ -1,5 +1,5 @@
 -- Packets' frames, one after another.
-use Rattle.std.proofs.Common.{◌≡◌, ℕ, ◌+◌, ◌*◌, ◌<◌, ◌^◌, List, [], ◌∷◌, ◌++◌, length, take, ap, sym, ◌∙◌, arith, append_assoc}
+use Rattle.std.proofs.Common.{◌≡◌, ℕ, ◌+◌, ◌*◌, ◌<◌, ◌≤◌, ◌^◌, List, [], ◌∷◌, ◌++◌, length, take, ap, sym, ◌∙◌, arith, append_assoc}
 use Rattle.std.specs.Int.{w16, to_be_bytes}
 use Rattle.std.specs.List.{flat_map}
 use Rattle.std.proofs.lemmas.Grind.{flat_map-append}
@@ -59,3 +59,17 @@ pub spelled_more : (bytes : List ℕ) (packets : List Packet) (packet : Packet) 
 spelled_more bytes packets packet rest more so-far next =
     so-far ∙ ap (λ (x : List ℕ). flat_map packet_frame packets ++ x) next ∙ sym (append_assoc (flat_map packet_frame packets) (packet_frame packet) more)
     ∙ ap (λ (x : List ℕ). x ++ more) (sym (flat_map-append packet_frame packets (packet ∷ []) ∙ ap (λ (x : List ℕ). flat_map packet_frame packets ++ x) (append-nil (packet_frame packet))))
+
+-- ---- a frame for each packet
+
+frame_is_long : (kind : ℕ) (body : List ℕ) → 1 ≤ length (frame kind body)
+unfolding frame head
+frame_is_long kind body = omega arith
+
+pub few_packets : (packets : List Packet) → length packets ≤ length (flat_map packet_frame packets)
+few_packets [] = omega arith
+few_packets (p ∷ packets) =
+    let long = length-append (packet_frame p) (flat_map packet_frame packets) in
+    let one = frame_is_long 3 (packet_body p) in
+    let rest = few_packets packets in
+    omega arith

@@ -1,4 +1,4 @@
-ghost use Rattle.std.specs.Prelude.{◌≡◌, ◌↔◌, IfOk, IsErrOf, IsTrue};
+ghost use Rattle.std.specs.Prelude.{◌≡◌, ◌≤◌, ◌↔◌, length, IfOk, IsErrOf, IsTrue};
 ghost use Rattle.packet_wire.specs.Stream.{Contents, IsFirstStream, contents_of, end_frame};
 
 use crate::Manifest;
@@ -44,6 +44,7 @@ impl From<Memory> for StreamError {
 pub fn read_stream(alloc: Global, bytes: &[u8]) -> Result<Stream, StreamError>
     ensures found { IfOk result (λ stream. IsFirstStream bytes.now (contents_of stream)) }
     ensures only { IfOk result (λ stream. (contents : Contents) → IsFirstStream bytes.now contents → contents ≡ contents_of stream) }
+    ensures fewer_packets { IfOk result (λ stream. length stream.packets.items ≤ length bytes.now) }
     ensures refused { IsErrOf result StreamError.Refused → (contents : Contents) → IsFirstStream bytes.now contents → ⊥ }
 {
     bytes_spell_symbols();

@@ -3,4 +3,4 @@ use Rattle.avalanche_cli.proofs.fetch.fetch.Goals as goal
 
 pub returns-in-Ok-clause-end : goal.returns-in-Ok-clause-end
 returns-in-Ok-clause-end g c =
-    end_of_reception _ _ _ _ _ _ _ c.in-Ok.reception.replies.items c.in-Ok.reception.records.items c.in-Ok.reception.file c.finished.result.end c.in-Ok.ensures.received c.finished.ensures.written c.finished.ensures.stopped
+    end_of_reception _ _ _ c.in-Ok.reception.trace c.finished.result.trace _ _ _ _ c.in-Ok.reception.file c.finished.result.end c.in-Ok.ensures.received c.finished.ensures.written c.finished.ensures.stopped c.finished.ensures.kept

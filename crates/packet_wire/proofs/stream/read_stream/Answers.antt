@@ -1,10 +1,13 @@
-use Rattle.std.proofs.Common.{◌++◌, refl, sym, ap, subst, ◌∙◌}
+use Rattle.std.proofs.Common.{◌++◌, length, refl, sym, ap, subst, ◌∙◌, arith}
 use Rattle.std.specs.List.{flat_map}
 use Rattle.linear_spec.specs.Symbols.{AreBytes}
 use Rattle.generation.specs.Shape.{generations_of}
 use Rattle.packet_wire.specs.declared.manifest.Manifest.{Manifest}
-use Rattle.packet_wire.specs.Stream.{end_frame, packet_frame, ticket_frame, spelling_of}
+use Rattle.std.proofs.lemmas.List.{length-append}
+use Rattle.packet_wire.specs.Stream.{end_frame, manifest_frame, packet_frame, ticket_frame, spelling_of}
+use Rattle.packet_wire.specs.Reading.{unchecked}
 use Rattle.packet_wire.proofs.OneReading.{after_manifest, first_stream, is_unchecked, one_reading, IsReadUpTo}
+use Rattle.packet_wire.proofs.Packets.{few_packets}
 use Rattle.packet_wire.proofs.stream.read_stream.Goals as goal
 
 -- the manifest of a stream stands at the front
@@ -72,3 +75,12 @@ returns-clause-only c = λ contents first.
     let one = one_reading c.bytes_spell_symbols.ensures.symbols c.bytes_spell_symbols.ensures.length _ _ _ _ _ _ _ read contents first in
     let key = c.array32-key.ensures.value in
     rw (key, c.in_ok-sums.ensures) one.0
+
+pub returns-clause-fewer_packets : goal.returns-clause-fewer_packets
+returns-clause-fewer_packets c =
+    let packets = c.in_ok-packets.packets.items in
+    let few = few_packets packets in
+    let whole = ap length c.in-Some.ensures.1 ∙ length-append (manifest_frame c.in-Some.manifest) c.in-Some.rest.now in
+    let after = ap length c.in-Some-unchecked_key_at.ensures.1 ∙ length-append (ticket_frame (unchecked c.in-Some-unchecked_key_at.key.now)) c.in-Some-unchecked_key_at.rest.now in
+    let last = ap length c.in_ok-packets.ensures.spelled ∙ length-append (flat_map packet_frame packets) c.in_ok-packets.rest.now in
+    omega arith
