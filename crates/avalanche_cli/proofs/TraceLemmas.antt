@@ -1,8 +1,8 @@
 -- The calls of receivers that are dealt the packets one after another.
-use Rattle.std.proofs.Common.{◌≡◌, ◌≢◌, ℕ, ◌+◌, ◌<◌, ◌≤◌, ◌%◌, ◌^◌, Bool, true, false, ◌&&◌, cond, nat_lt, nat_eq, List, [], ◌∷◌, ◌++◌, length, map, get_or, Option, Some, None, refl, sym, ap, ◌∙◌, subst, arith, inl, inr, ◌⊎◌, ⊎_elim}
-use Rattle.std.specs.Prelude.{◌==◌, slice_index_or}
+use Rattle.std.proofs.Common.{◌≡◌, ◌≢◌, ℕ, ◌+◌, ◌<◌, ◌≤◌, ◌%◌, ◌^◌, cond, nat_lt, List, [], ◌∷◌, ◌++◌, length, map, get_or, Some, None, refl, sym, ap, ◌∙◌, subst, arith, inl, inr}
+use Rattle.std.specs.Prelude.{◌==◌}
 use Rattle.std.specs.List.{filter}
-use Rattle.std.proofs.lemmas.List.{append-nil, append_assoc, length-append, length-map, map-append}
+use Rattle.std.proofs.lemmas.List.{append-nil, length-append, length-map, map-append}
 use Rattle.std.proofs.Math.Nat.{mod-lt}
 use Rattle.std.proofs.lemmas.List.Elements.{filter-append}
 use Rattle.std.proofs.lemmas.Bool.{cases_eq, cases_lt, ne_eqb, eq-eqb, cond_below, cond_above}
@@ -19,8 +19,8 @@ use Rattle.basis_core.specs.declared.trace.CallerTrace.{CallerTrace}
 use Rattle.basis_core.specs.Calls.{KeptCall, KeptOffer, KeptDraw, call_of, IsAnsweredAt}
 use Rattle.basis_core.specs.Merge.{Given, only}
 use Rattle.basis_core.specs.Legal.{IsLegalHistory, Gains, HaveSeenAtMost, record_by}
-use Rattle.avalanche_cli.specs.Trace.{Indexed, indexed_from, is_dealt, dealt_to, AreOffersOf, given_below, IsLegalBasis, unchecked}
-use Rattle.avalanche_cli.specs.Receiving.{CallsAtMost, IsUntouched, Keeps, Offers, IsReceivedBy}
+use Rattle.avalanche_cli.specs.Trace.{Indexed, indexed_from, is_dealt, dealt_to, AreOffersOf, given_below, unchecked}
+use Rattle.avalanche_cli.specs.Receiving.{CallsAtMost, IsUntouched, Offers, IsReceivedBy}
 
 -- ---- the packets that a receiver gets
 

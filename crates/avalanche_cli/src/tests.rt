@@ -1,6 +1,7 @@
 ghost use Rattle.std.specs.Prelude.{None};
 
 use super::*;
+use basis_core::{Answer, Call};
 use gf16::Memory;
 use linear_spec::{List, Reply};
 use std::alloc::Global;
@@ -49,6 +50,34 @@ fn fetch_of<R: Threads + Sync>(
     Ok((outcome, output))
 }
 
+/// The calls of a receiver on the basis of generation 0, as the outcome has them.
+fn calls_of(outcome: &Outcome, receiver: usize) -> &[Call] {
+    let Some(basis) = outcome.trace.bases.get(0) else {
+        return &[];
+    };
+    match basis.callers.get(receiver) {
+        Some(caller) => caller.calls.as_slice(),
+        None => &[],
+    }
+}
+
+fn offered(tag: u64, reply: Reply) -> Call {
+    Call {
+        tag,
+        answer: Answer::Offered(reply),
+    }
+}
+
+/// The caller, the call and the coefficients and payload of a record of packets of two coefficients and one symbol.
+fn record_of(outcome: &Outcome, at: usize) -> Option<(u32, u32, [u16; 3])> {
+    let record = outcome.trace.bases.get(0)?.records.get(at)?;
+    let packet = &record.packet;
+    let first = packet.coeffs.as_slice().first()?;
+    let second = packet.coeffs.as_slice().get(1)?;
+    let payload = packet.payload.as_slice().first()?;
+    Some((record.caller, record.call, [*first, *second, *payload]))
+}
+
 #[test]
 fn fetches_abc_from_two_packets(rt: HostRuntime) -> Result<(), Fail> {
     let mut stream = List::new(rt.alloc());
@@ -56,11 +85,14 @@ fn fetches_abc_from_two_packets(rt: HostRuntime) -> Result<(), Fail> {
     let (outcome, output) = fetch_of(&rt, rt.alloc(), stream)?;
     assert_eq!(rt; outcome.end, End::Done);
     assert_eq!(rt; output.bytes(), b"abc".as_slice());
-    let replies = [
-        Reply::Innovative { at: 0 },
-        Reply::Innovative { at: 1 },
-    ];
-    assert_eq!(rt; outcome.replies.as_slice(), replies.as_slice());
+    let first = [offered(0, Reply::Innovative { at: 0 })];
+    let second = [offered(1, Reply::Innovative { at: 1 })];
+    assert_eq!(rt; calls_of(&outcome, 0), first.as_slice());
+    assert_eq!(rt; calls_of(&outcome, 1), second.as_slice());
+    assert_eq!(rt; record_of(&outcome, 0), Some((0, 0, [1, 0, 0x6162])));
+    assert_eq!(rt; record_of(&outcome, 1), Some((1, 0, [0, 1, 0x6300])));
+    assert_eq!(rt; outcome.trace.bases.len(), 1);
+    assert!(rt; outcome.trace.sends.as_slice().is_empty());
     Ok(())
 }
 
@@ -70,7 +102,6 @@ fn fetches_abc_from_dense_packets(rt: HostRuntime) -> Result<(), Fail> {
     let (outcome, output) = fetch_of(&rt, rt.alloc(), stream)?;
     assert_eq!(rt; outcome.end, End::Done);
     assert_eq!(rt; output.bytes(), b"abc".as_slice());
-    assert_eq!(rt; outcome.records.len(), 2);
     Ok(())
 }
 
@@ -86,13 +117,11 @@ fn a_third_packet_tells_nothing_new(rt: HostRuntime) -> Result<(), Fail> {
         let (outcome, output) = fetch_of(&rt, rt.alloc(), stream)?;
         assert_eq!(rt; outcome.end, End::Done);
         assert_eq!(rt; output.bytes(), b"abc".as_slice());
-        let replies = [
-            Reply::Innovative { at: 0 },
-            Reply::Innovative { at: 1 },
-            reply,
-        ];
-        assert_eq!(rt; outcome.replies.as_slice(), replies.as_slice());
-        assert_eq!(rt; outcome.records.len(), 2);
+        let first = [offered(0, Reply::Innovative { at: 0 }), offered(2, reply)];
+        let second = [offered(1, Reply::Innovative { at: 1 })];
+        assert_eq!(rt; calls_of(&outcome, 0), first.as_slice());
+        assert_eq!(rt; calls_of(&outcome, 1), second.as_slice());
+        assert_eq!(rt; record_of(&outcome, 2), None);
     }
     Ok(())
 }
@@ -109,12 +138,11 @@ fn a_first_packet_of_no_coefficients_tells_nothing_new(rt: HostRuntime) -> Resul
         let (outcome, output) = fetch_of(&rt, rt.alloc(), stream)?;
         assert_eq!(rt; outcome.end, End::Done);
         assert_eq!(rt; output.bytes(), b"abc".as_slice());
-        let replies = [
-            reply,
-            Reply::Innovative { at: 0 },
-            Reply::Innovative { at: 1 },
-        ];
-        assert_eq!(rt; outcome.replies.as_slice(), replies.as_slice());
+        let first = [offered(0, reply), offered(2, Reply::Innovative { at: 1 })];
+        let second = [offered(1, Reply::Innovative { at: 0 })];
+        assert_eq!(rt; calls_of(&outcome, 0), first.as_slice());
+        assert_eq!(rt; calls_of(&outcome, 1), second.as_slice());
+        assert_eq!(rt; record_of(&outcome, 1), Some((0, 1, [0, 1, 0x6300])));
     }
     Ok(())
 }
@@ -130,17 +158,32 @@ fn packets_of_rank_one_are_incomplete(rt: HostRuntime) -> Result<(), Fail> {
     assert_eq!(rt; outcome.end, end);
     assert_eq!(rt; outcome.end.status(), 6);
     assert!(rt; output.bytes().is_empty());
-    let replies = [
-        Reply::Innovative { at: 0 },
-        Reply::NotInnovative { front: 1 },
-    ];
-    assert_eq!(rt; outcome.replies.as_slice(), replies.as_slice());
+    let first = [offered(0, Reply::Innovative { at: 0 })];
+    let second = [offered(1, Reply::NotInnovative { front: 1 })];
+    assert_eq!(rt; calls_of(&outcome, 0), first.as_slice());
+    assert_eq!(rt; calls_of(&outcome, 1), second.as_slice());
+    Ok(())
+}
+
+#[test]
+fn a_stream_of_no_packets_lists_both_receivers(rt: HostRuntime) -> Result<(), Fail> {
+    let stream = stream_of(rt.alloc(), &[])?;
+    let (outcome, output) = fetch_of(&rt, rt.alloc(), stream)?;
+    let end = End::Incomplete {
+        generation: 0,
+        rank: 0,
+    };
+    assert_eq!(rt; outcome.end, end);
+    assert!(rt; output.bytes().is_empty());
+    let callers = outcome.trace.bases.get(0).map(|basis| basis.callers.len());
+    assert_eq!(rt; callers, Some(2));
     Ok(())
 }
 
 // The SHA-256 of `acc`, by the command `sha256sum`.
 const ACC_DIGEST: [u8; 32] = [
-    0x41, 0x43, 0x22, 0x30, 0x9d, 0xb5, 0xc0, 0x6d, 0x09, 0x0a, 0x2e, 0x92, 0x2c, 0xcc, 0x3e, 0x00, 0x70, 0x8c, 0x99, 0x3b, 0x9b, 0x96, 0x40, 0x5d, 0xe1, 0x27, 0xb7, 0xfd, 0x8d, 0xa2, 0xdd, 0x21,
+    0x41, 0x43, 0x22, 0x30, 0x9d, 0xb5, 0xc0, 0x6d, 0x09, 0x0a, 0x2e, 0x92, 0x2c, 0xcc, 0x3e, 0x00,
+    0x70, 0x8c, 0x99, 0x3b, 0x9b, 0x96, 0x40, 0x5d, 0xe1, 0x27, 0xb7, 0xfd, 0x8d, 0xa2, 0xdd, 0x21,
 ];
 
 #[test]
@@ -150,7 +193,7 @@ fn another_payload_is_a_mismatch(rt: HostRuntime) -> Result<(), Fail> {
     assert_eq!(rt; outcome.end, End::Mismatch { found: ACC_DIGEST });
     assert_eq!(rt; outcome.end.status(), 7);
     assert!(rt; output.bytes().is_empty());
-    assert_eq!(rt; outcome.records.len(), 2);
+    assert_eq!(rt; record_of(&outcome, 1), Some((1, 0, [0, 1, 0x6300])));
     Ok(())
 }
 
@@ -161,7 +204,7 @@ fn a_stream_cut_short_is_not_built(rt: HostRuntime) -> Result<(), Fail> {
     let (outcome, output) = fetch_of(&rt, rt.alloc(), stream)?;
     assert_eq!(rt; outcome.end, End::NotBuilt);
     assert!(rt; output.bytes().is_empty());
-    assert!(rt; outcome.replies.as_slice().is_empty());
+    assert!(rt; outcome.trace.bases.as_slice().is_empty());
     Ok(())
 }
 
