@@ -1,4 +1,6 @@
 pub mod Calls
+pub mod Found
 pub mod Legal
+pub mod Machine
 pub mod Merge
 pub mod Run
