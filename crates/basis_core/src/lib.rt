@@ -12,3 +12,6 @@ mod trace;
 pub use machine::{Core, replay};
 pub use order::merge;
 pub use trace::{Answer, BasisTrace, Call, CallerOffers, CallerTrace, Event, Replayed};
+
+#[cfg(test)]
+mod tests;
