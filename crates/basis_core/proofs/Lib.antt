@@ -1,9 +1,14 @@
+pub mod FirstNonzero
 pub mod Law
 pub mod Lists
 pub mod Local
 pub mod Merging
+pub mod Offers
+pub mod PlusScaled
 pub mod Points
+pub mod Reduction
 pub mod Runs
+pub mod Scaled
 pub mod Told
 pub mod Whole
 pub mod Worked

@@ -1,4 +1,7 @@
 pub mod Calls
+pub mod Entries
+pub mod Found
 pub mod Legal
+pub mod Machine
 pub mod Merge
 pub mod Run

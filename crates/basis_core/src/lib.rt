@@ -1,7 +1,17 @@
 //! The sequential basis as a machine over calls, and legal histories: what callers of one basis may have been answered.
 #![tactic(auto)]
 
+mod entry;
+mod examine;
 pub mod laws;
+mod machine;
+mod order;
+mod reduce;
 mod trace;
 
+pub use machine::{Core, replay};
+pub use order::merge;
 pub use trace::{Answer, BasisTrace, Call, CallerOffers, CallerTrace, Event, Replayed};
+
+#[cfg(test)]
+mod tests;
