@@ -3,8 +3,10 @@
 #![tactic(auto)]
 
 mod keys;
+mod passing;
 mod weights;
 
 pub use keys::{number_key, ticket_key};
+pub use passing::first_failed;
 pub use weights::weight;
 
