@@ -2,11 +2,16 @@
 //! fails.
 #![tactic(auto)]
 
+mod equations;
 mod keys;
+pub mod laws;
 mod passing;
+mod ticket;
 mod weights;
 
+pub use equations::make_equations;
 pub use keys::{number_key, ticket_key};
 pub use passing::first_failed;
+pub use ticket::make_ticket;
 pub use weights::weight;
 

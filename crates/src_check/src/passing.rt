@@ -5,7 +5,7 @@ use gf_lanes::dot;
 use linear_spec::{Equations, Packet};
 
 /// The lanes of the sums.
-const LANES: usize = 16;
+pub(crate) const LANES: usize = 16;
 
 /// The least check that the packet fails, or `None` where it passes. Takes no memory.
 pub fn first_failed(equations: &Equations, packet: &Packet) -> Option<u8>

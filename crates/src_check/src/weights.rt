@@ -1,4 +1,4 @@
-ghost use Rattle.std.specs.Prelude.{◌≡◌, ◌<◌, ◌≤◌, ◌%◌, ◌^◌, ◌++◌, IfOk, OnOk};
+ghost use Rattle.std.specs.Prelude.{◌≡◌, ◌<◌, ◌≤◌, ◌*◌, ◌%◌, ◌^◌, ◌++◌, IfOk, OnOk, length};
 ghost use Rattle.src_check.specs.Weights.{check_weights_of, weight_of, weights_of_checks};
 
 use gf16::{Gf, Memory};
@@ -22,10 +22,11 @@ pub fn weight(key: &[u8; 32], t: u8, j: u16) -> Gf
 }
 
 /// The weights of the checks, each at the symbols of a block, check after check.
-#[tactic(auto, using(crate::proofs::Places::pieces_more), unfolding(crate::specs::Weights::weights_of_checks))]
+#[tactic(auto, using(crate::proofs::Places::pieces_more, crate::proofs::WeightCounts::length_weights), unfolding(crate::specs::Weights::weights_of_checks))]
 pub(crate) fn weights_of_checks(alloc: Global, key: &[u8; 32], s: u16, checks: u8) -> Result<SymVec, Memory>
     requires { checks ≤ 8 }
-    ensures { IfOk result (λ weights. weights ≡ weights_of_checks key.now s checks) }
+    ensures value { IfOk result (λ weights. weights ≡ weights_of_checks key.now s checks) }
+    ensures length { IfOk result (λ weights. length weights ≡ checks * s) }
 {
     let mut weights = List::new(alloc);
     for check in 0..checks {
