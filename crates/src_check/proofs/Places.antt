@@ -74,5 +74,6 @@ piece_at f size (suc n) i each below =
         let next : i + 1 ≤ n = omega arith in
         let more : size * (i + 1) ≤ size * n = mul-le-mul_left size next in
         omega arith
+
     earlier_or_last : (a b : ℕ) → a < suc b → (a < b) ⊎ (a ≡ b)
     earlier_or_last a b h = grind arith

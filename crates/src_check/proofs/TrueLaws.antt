@@ -66,9 +66,9 @@ have_sums d file ticket equations g of_file of_ticket below = λ check within.
     let weights_are = of_ticket.weights in
     let inside : check < ticket.checks = omega arith in
     let place : take equations.k (drop ((g * equations.checks + check) * equations.k) equations.sums)
-        ≡ take d.k (drop ((g * ticket.checks + check) * d.k) (file_sums_of d file ticket.key ticket.checks)) = cc in
+    ≡ take d.k (drop ((g * ticket.checks + check) * d.k) (file_sums_of d file ticket.key ticket.checks)) = cc in
     let own : take equations.s (drop (check * equations.s) equations.weights)
-        ≡ take s (drop (check * s) (weights_of_checks ticket.key s ticket.checks)) = cc in
+    ≡ take s (drop (check * s) (weights_of_checks ticket.key s ticket.checks)) = cc in
     place ∙ sums_at d file ticket.key ticket.checks g check below inside
     ∙ ap (λ ws. map (dot_of ws) (generation_blocks_of d file g)) (sym (own ∙ weights_at ticket.key s ticket.checks check inside))
 

@@ -15,3 +15,5 @@ pub use passing::first_failed;
 pub use ticket::make_ticket;
 pub use weights::weight;
 
+#[cfg(test)]
+mod tests;

@@ -9,13 +9,19 @@ ghost use Rattle.src_check.specs.Weights.{sums_by};
 use crate::passing::{LANES, piece};
 use crate::weights::weights_of_checks;
 use generation::{Shape, Ticket};
-use gf16::Memory;
 use gf_lanes::dot;
+use gf16::Memory;
 use linear_spec::{List, SymVec};
 use std::alloc::Global;
 
 /// The ticket of a file by this key: for each generation and check, the weighted sum of each block.
-pub fn make_ticket(alloc: Global, shape: &Shape, file: &[u8], key: [u8; 32], checks: u8) -> Result<Ticket, Memory>
+pub fn make_ticket(
+    alloc: Global,
+    shape: &Shape,
+    file: &[u8],
+    key: [u8; 32],
+    checks: u8,
+) -> Result<Ticket, Memory>
     requires file { length file.now ≡ shape.now.len }
     requires checks { checks ≤ 8 }
     ensures key { IfOk result (λ ticket. ticket.key ≡ key) }
@@ -38,7 +44,12 @@ pub fn make_ticket(alloc: Global, shape: &Shape, file: &[u8], key: [u8; 32], che
 
 /// The blocks of a generation.
 #[tactic(auto, unfolding(crate::specs::Tickets::generation_blocks_of))]
-fn generation_blocks(alloc: Global, shape: &Shape, file: &[u8], g: u16) -> Result<List<SymVec>, Memory>
+fn generation_blocks(
+    alloc: Global,
+    shape: &Shape,
+    file: &[u8],
+    g: u16,
+) -> Result<List<SymVec>, Memory>
     requires file { length file.now ≡ shape.now.len }
     requires generation { g < generations_of shape.now }
     ensures blocks { IfOk result (λ blocks. blocks.items ≡ generation_blocks_of shape.now file.now g) }
@@ -73,7 +84,11 @@ fn append_generation_sums(
 }
 
 /// Appends the weighted sum of each block.
-fn append_check_sums(weights: &[u16], blocks: &List<SymVec>, sums: &mut List<u16>) -> Result<(), Memory>
+fn append_check_sums(
+    weights: &[u16],
+    blocks: &List<SymVec>,
+    sums: &mut List<u16>,
+) -> Result<(), Memory>
     requires { All (IsVector (length weights.now)) blocks.now.items }
     ensures { OnOk result (sums.new.items ≡ sums.old.items ++ map (dot_of weights.now) blocks.now.items) }
 {

@@ -23,7 +23,12 @@ pub fn weight(key: &[u8; 32], t: u8, j: u16) -> Gf
 
 /// The weights of the checks, each at the symbols of a block, check after check.
 #[tactic(auto, using(crate::proofs::Places::pieces_more, crate::proofs::WeightCounts::length_weights), unfolding(crate::specs::Weights::weights_of_checks))]
-pub(crate) fn weights_of_checks(alloc: Global, key: &[u8; 32], s: u16, checks: u8) -> Result<SymVec, Memory>
+pub(crate) fn weights_of_checks(
+    alloc: Global,
+    key: &[u8; 32],
+    s: u16,
+    checks: u8,
+) -> Result<SymVec, Memory>
     requires { checks ≤ 8 }
     ensures value { IfOk result (λ weights. weights ≡ weights_of_checks key.now s checks) }
     ensures length { IfOk result (λ weights. length weights ≡ checks * s) }
@@ -37,7 +42,12 @@ pub(crate) fn weights_of_checks(alloc: Global, key: &[u8; 32], s: u16, checks: u
 
 /// Appends the weights of a check, one word after another.
 #[tactic(auto, unfolding(crate::specs::Weights::weight_of, crate::specs::Weights::check_weights_of))]
-fn append_check_weights(key: &[u8; 32], s: u16, check: u8, weights: &mut List<u16>) -> Result<(), Memory>
+fn append_check_weights(
+    key: &[u8; 32],
+    s: u16,
+    check: u8,
+    weights: &mut List<u16>,
+) -> Result<(), Memory>
     requires { check < 8 }
     ensures { OnOk result (weights.new.items ≡ weights.old.items ++ check_weights_of key.now s check) }
 {
