@@ -1,17 +1,16 @@
 -- Packets that are true to a file pass the equations of its ticket.
 use Rattle.std.proofs.Common.{◌≡◌, ℕ, ◌+◌, ◌*◌, ◌<◌, ◌≤◌, List, ◌++◌, length, take, drop, map, ap, sym, subst, ◌∙◌, drop-drop, arith}
-use Rattle.std.specs.List.{range_with_len}
 use Rattle.std.proofs.lemmas.List.{take-append-drop}
 use Rattle.std.proofs.Math.Nat.{mul-le-mul_left}
 use Rattle.gf16.specs.Sums.{dot_of}
 use Rattle.linear_spec.specs.declared.equations.Equations.{Equations}
 use Rattle.linear_spec.specs.declared.packet.Packet.{Packet}
 use Rattle.linear_spec.specs.Packet.{Fits}
-use Rattle.linear_spec.specs.Passing.{AreEquations, HaveSumsOf, IsTestable, sums_of, weights_of}
+use Rattle.linear_spec.specs.Passing.{AreEquations, HaveSumsOf, IsTestable}
 use Rattle.generation.specs.declared.ticket.Ticket.{Ticket}
 use Rattle.generation.specs.Shape.{Dimensions, generations_of, symbols_per_block}
 use Rattle.src_check.specs.Tickets.{AreEquationsOf, IsTicketOf, check_sums_of, file_sums_of, generation_blocks_of, generation_sums_of}
-use Rattle.src_check.specs.Weights.{check_weights_of, weights_of_checks}
+use Rattle.src_check.specs.Weights.{weights_of_checks}
 use Rattle.src_check.proofs.Places.{piece_at, take_within}
 use Rattle.src_check.proofs.Sums.{length_check_sums, length_generation_sums, weights_at}
 

@@ -1,4 +1,4 @@
-ghost use Rattle.std.specs.Prelude.{◌≡◌, ◌↔◌, ◌+◌, ◌*◌, ◌<◌, ◌≤◌, IfSome, IsNone, IsTrue, length, take, drop};
+ghost use Rattle.std.specs.Prelude.{◌≡◌, ◌↔◌, ℕ, Some, ◌+◌, ◌*◌, ◌<◌, ◌≤◌, IfSome, IsNone, IsTrue, length, take, drop};
 ghost use Rattle.linear_spec.specs.Passing.{AreEquations, IsFirstFailing, IsTestable, Meets, Passes, sums_of, weights_of};
 
 use gf_lanes::dot;
@@ -11,6 +11,7 @@ pub(crate) const LANES: usize = 16;
 pub fn first_failed(equations: &Equations, packet: &Packet) -> Option<u8>
     requires { IsTestable equations.now packet.now }
     ensures fails { IfSome result (IsFirstFailing equations.now packet.now) }
+    ensures first { (t : ℕ) → IsFirstFailing equations.now packet.now t → result ≡ Some t }
     ensures passes { IsNone result ↔ Passes equations.now packet.now }
 {
     for check in 0..equations.checks {

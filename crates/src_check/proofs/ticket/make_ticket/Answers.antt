@@ -1,6 +1,5 @@
-use Rattle.std.proofs.Common.{◌≡◌, ℕ, ◌+◌, ◌*◌, List, ◌++◌, length, ap, ap₂, sym, subst, ◌∙◌, arith}
+use Rattle.std.proofs.Common.{◌≡◌, ℕ, ◌+◌, List, ◌++◌, length, ap, ap₂, sym, ◌∙◌, arith}
 use Rattle.std.specs.List.{flat_map, range_with_len}
-use Rattle.linear_spec.specs.Symbols.{IsVector}
 use Rattle.generation.specs.Shape.{Dimensions, generations_of}
 use Rattle.src_check.specs.Tickets.{file_sums_of, generation_sums_of}
 use Rattle.src_check.proofs.Places.{pieces_more}
