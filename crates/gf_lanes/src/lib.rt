@@ -1,5 +1,5 @@
-//! Kernels over slices of symbols, for vectors of 8, 16 or 32 lanes. Each equals its plain sum of `gf16`, whatever the width and
-//! the length of the slices.
+//! Kernels over slices of symbols, for vectors of 8, 16 or 32 lanes. Each equals its plain sum, whatever the width and the
+//! length of the slices.
 #![tactic(auto)]
 
 mod kernels;

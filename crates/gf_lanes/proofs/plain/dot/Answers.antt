@@ -5,9 +5,10 @@ use Rattle.gf_lanes.proofs.plain.dot.Goals as goal
 
 pub loop-i-preserved : goal.loop-i-preserved
 loop-i-preserved c =
+    let product = product_of (get_or c.args.a.now c.loop-i.i 0) (get_or c.args.b.now c.loop-i.i 0) in
     let within : c.loop-i.i < length c.args.a.now = omega arith in
     let there : c.loop-i.i < length c.args.b.now = omega arith in
     c.add-sum.ensures
     ∙ ap (sum_of c.loop-i.sum.0) c.mul.ensures
-    ∙ ap (λ s. sum_of s (product_of (get_or c.args.a.now c.loop-i.i 0) (get_or c.args.b.now c.loop-i.i 0))) c.loop-i.invariant
+    ∙ ap (λ sum. sum_of sum product) c.loop-i.invariant
     ∙ dot_more c.loop-i.i c.args.a.now c.args.b.now within there
