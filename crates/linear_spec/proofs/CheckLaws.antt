@@ -17,7 +17,8 @@ module _ (field : IsField) where
   sum-regroups : (a b d e : ℕ) → sum_of (sum_of a b) (sum_of d e) ≡ sum_of (sum_of a d) (sum_of b e)
   sum-regroups a b d e =
       field.sum_associates a b (sum_of d e)
-      ∙ ap (sum_of a) (sym (field.sum_associates b d e) ∙ ap (λ x. sum_of x e) (field.sum_commutes b d) ∙ field.sum_associates d b e)
+      ∙ ap (sum_of a)
+      (sym (field.sum_associates b d e) ∙ ap (λ x. sum_of x e) (field.sum_commutes b d) ∙ field.sum_associates d b e)
       ∙ sym (field.sum_associates a d (sum_of b e))
 
   -- a factor comes out of a product
@@ -64,7 +65,8 @@ module _ (field : IsField) where
   plus_scaled-dot c (x ∷ u) (y ∷ v) [] symbol same = none-added c
   plus_scaled-dot c (x ∷ u) (y ∷ v) (a ∷ z) symbol same =
       ap₂ sum_of
-      (field.product_distributes_left x (product_of c y) a ∙ ap (sum_of (product_of x a)) (field.product_associates c y a symbol))
+      (field.product_distributes_left x (product_of c y) a
+      ∙ ap (sum_of (product_of x a)) (field.product_associates c y a symbol))
       (plus_scaled-dot c u v z symbol (omega arith))
       ∙ sum-regroups (product_of x a) (product_of c (product_of y a)) (dot_of u z) (product_of c (dot_of v z))
       ∙ ap (sum_of (sum_of (product_of x a) (dot_of u z))) (sym (field.product_distributes c (product_of y a) (dot_of v z)))
@@ -102,7 +104,8 @@ AreSymbols-weights equations check are =
     (All-drop IsSymbol (check * equations.s) equations.weights are.weights.symbols)
 
 -- the coefficients and the payloads of packets that fit
-AreVectors-coefficients : (k s : ℕ) (packets : List Packet) → All (Fits k s) packets → All (IsVector k) (coefficients_of packets)
+AreVectors-coefficients : (k s : ℕ) (packets : List Packet) → All (Fits k s) packets
+    → All (IsVector k) (coefficients_of packets)
 AreVectors-coefficients k s [] fit = All-nil (IsVector k)
 AreVectors-coefficients k s (p ∷ ps) fit =
     All-cons (IsVector k) p.coeffs (coefficients_of ps) (All-head (Fits k s) p ps fit).coeffs
@@ -141,7 +144,8 @@ combination-passes field equations packets cs combined are symbols fit one pass 
     ∙ dot-combination field equations.s weights cs (payloads_of packets) (AreSymbols-weights equations check are) symbols
     (AreVectors-payloads equations.k equations.s packets fit)
     ∙ ap (dot_of cs) (sides_agree equations combined.generation check packets below one pass)
-    ∙ sym (combination-dot field equations.k sums cs (coefficients_of packets) symbols (AreVectors-coefficients equations.k equations.s packets fit))
+    ∙ sym (combination-dot field equations.k sums cs (coefficients_of packets) symbols
+    (AreVectors-coefficients equations.k equations.s packets fit))
     ∙ ap (λ u. dot_of u sums) (sym coeffs)
 
 -- a packet that is true to blocks passes equations that have their sums
@@ -151,6 +155,7 @@ pub true-passes : IsField → (equations : Equations) (blocks : List (List ℕ))
 true-passes field equations blocks packet testable vectors sums true = λ check below.
     let weights = weights_of equations check in
     ap (dot_of weights) (sym true)
-    ∙ dot-combination field equations.s weights packet.coeffs blocks (AreSymbols-weights equations check testable.are_equations)
+    ∙ dot-combination field equations.s weights packet.coeffs blocks
+    (AreSymbols-weights equations check testable.are_equations)
     testable.fits.coeffs.symbols vectors
     ∙ ap (dot_of packet.coeffs) (sym (sums check below))

@@ -45,7 +45,8 @@ unfolding blocks_of generation_blocks_of
 blocks_in_order d file = map_pieces (block_at d file) d.k (generations_of d)
 
 -- a member of a list of vectors
-vector_at : (n at : ℕ) (vectors : List (List ℕ)) (vector : List ℕ) → All (IsVector n) vectors → slice_get vectors at ≡ Some vector → IsVector n vector
+vector_at : (n at : ℕ) (vectors : List (List ℕ)) (vector : List ℕ) → All (IsVector n) vectors
+    → slice_get vectors at ≡ Some vector → IsVector n vector
 vector_at n at vectors vector all there =
     subst (IsVector n) (get_or_from_slice_get vectors at vector [] there)
     (All-get_or (IsVector n) vectors at [] (slice_get_within vectors at vector there) all)

@@ -19,7 +19,8 @@ sums_within generations checks k g check below within =
     omega arith
 
 -- one piece more, at the end
-pub pieces_more : {X : Type 0} (f : ℕ → List X) (n : ℕ) → flat_map f (range_with_len 0 (n + 1)) ≡ flat_map f (range_with_len 0 n) ++ f n
+pub pieces_more : {X : Type 0} (f : ℕ → List X) (n : ℕ)
+    → flat_map f (range_with_len 0 (n + 1)) ≡ flat_map f (range_with_len 0 n) ++ f n
 pieces_more {X = X} f n =
     let own = λ (piece : List X). piece in
     sym (flat_map-map own f (range_with_len 0 (n + 1)))
@@ -28,7 +29,8 @@ pieces_more {X = X} f n =
     ∙ ap₂ (λ a b. a ++ b) (flat_map-map own f (range_with_len 0 n)) (append-nil (f n))
 
 -- as many pieces of one length
-pub length_pieces : (f : ℕ → List ℕ) (size n : ℕ) → ((i : ℕ) → length (f i) ≡ size) → length (flat_map f (range_with_len 0 n)) ≡ n * size
+pub length_pieces : (f : ℕ → List ℕ) (size n : ℕ) → ((i : ℕ) → length (f i) ≡ size)
+    → length (flat_map f (range_with_len 0 n)) ≡ n * size
 length_pieces f size zero each = omega arith
 length_pieces f size (suc n) each =
     ap (λ k. length (flat_map f (range_with_len 0 k))) (sym (add-one n)) ∙ ap length (pieces_more f n)
@@ -46,7 +48,8 @@ pieces_same f h (suc n) same =
     ∙ sym (pieces_more h n) ∙ ap (λ k. flat_map h (range_with_len 0 k)) (add-one n)
 
 -- a part of a list that ends within its front
-pub take_within : (size at : ℕ) (front back : List ℕ) → at + size ≤ length front → take size (drop at (front ++ back)) ≡ take size (drop at front)
+pub take_within : (size at : ℕ) (front back : List ℕ) → at + size ≤ length front
+    → take size (drop at (front ++ back)) ≡ take size (drop at front)
 take_within size at front back within =
     ap (take size) (drop-append-le at front back (omega arith))
     ∙ take-append-le size (drop at front) back (omega (arith, length-drop at front))
@@ -69,7 +72,8 @@ piece_at f size (suc n) i each below =
     ∙ take_all size (f n) (omega (arith, each n)) ∙ ap f (sym last))
     (earlier_or_last i n below)
   where
-    ends_within : i < n → length (flat_map f (range_with_len 0 n)) ≡ n * size → i * size + size ≤ length (flat_map f (range_with_len 0 n))
+    ends_within : i < n → length (flat_map f (range_with_len 0 n)) ≡ n * size
+        → i * size + size ≤ length (flat_map f (range_with_len 0 n))
     ends_within earlier count =
         let next : i + 1 ≤ n = omega arith in
         let more : size * (i + 1) ≤ size * n = mul-le-mul_left size next in

@@ -17,16 +17,21 @@ length_generation_blocks d file g = length-map-range_with_len (block_of d file g
 
 pub length_check_sums : (d : Dimensions) (file key : List ℕ) (g check : ℕ) → length (check_sums_of d file key g check) ≡ d.k
 length_check_sums d file key g check =
-    length-map (generation_blocks_of d file g) (weighted_sum_of key (symbols_per_block d) check) ∙ length_generation_blocks d file g
+    length-map (generation_blocks_of d file g) (weighted_sum_of key (symbols_per_block d) check)
+    ∙ length_generation_blocks d file g
 
-pub length_generation_sums : (d : Dimensions) (file key : List ℕ) (checks g : ℕ) → length (generation_sums_of d file key checks g) ≡ checks * d.k
+pub length_generation_sums : (d : Dimensions) (file key : List ℕ) (checks g : ℕ)
+    → length (generation_sums_of d file key checks g) ≡ checks * d.k
 unfolding generation_sums_of
-length_generation_sums d file key checks g = length_pieces (check_sums_of d file key g) d.k checks (length_check_sums d file key g)
+length_generation_sums d file key checks g =
+    length_pieces (check_sums_of d file key g) d.k checks (length_check_sums d file key g)
 
-pub length_file_sums : (d : Dimensions) (file key : List ℕ) (checks : ℕ) → length (file_sums_of d file key checks) ≡ generations_of d * checks * d.k
+pub length_file_sums : (d : Dimensions) (file key : List ℕ) (checks : ℕ)
+    → length (file_sums_of d file key checks) ≡ generations_of d * checks * d.k
 unfolding file_sums_of
 length_file_sums d file key checks =
-    length_pieces (generation_sums_of d file key checks) (checks * d.k) (generations_of d) (length_generation_sums d file key checks) ∙ omega arith
+    length_pieces (generation_sums_of d file key checks) (checks * d.k) (generations_of d) (length_generation_sums d file key checks)
+    ∙ omega arith
 
 -- the weights of a check, among those of all checks
 pub weights_at : (key : List ℕ) (s checks check : ℕ) → check < checks
@@ -42,5 +47,7 @@ unfolding sums_by generation_sums_of
 sums_by_weights d file key weights blocks s checks g weights_are s_is blocks_are =
     pieces_same (sums_by weights s blocks) (check_sums_of d file key g) checks
     (λ check below.
-    let part = ap (λ ws. take s (drop (check * s) ws)) weights_are ∙ weights_at key s checks check below ∙ ap (λ n. check_weights_of key n check) s_is in
-    ap (λ ws. map (dot_of ws) blocks) part ∙ ap (map (dot_of (check_weights_of key (symbols_per_block d) check))) blocks_are)
+    let part = ap (λ ws. take s (drop (check * s) ws)) weights_are ∙ weights_at key s checks check below
+    ∙ ap (λ n. check_weights_of key n check) s_is in
+    ap (λ ws. map (dot_of ws) blocks) part
+    ∙ ap (map (dot_of (check_weights_of key (symbols_per_block d) check))) blocks_are)

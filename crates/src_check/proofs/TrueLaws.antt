@@ -16,16 +16,19 @@ use Rattle.src_check.proofs.Sums.{length_check_sums, length_generation_sums, wei
 
 -- the sums of a generation, among those of the file
 generation_at : (d : Dimensions) (file key : List ℕ) (checks g : ℕ) → g < generations_of d
-    → take (checks * d.k) (drop (g * (checks * d.k)) (file_sums_of d file key checks)) ≡ generation_sums_of d file key checks g
+    → take (checks * d.k) (drop (g * (checks * d.k)) (file_sums_of d file key checks))
+    ≡ generation_sums_of d file key checks g
 unfolding file_sums_of
 generation_at d file key checks g below =
-    piece_at (generation_sums_of d file key checks) (checks * d.k) (generations_of d) g (length_generation_sums d file key checks) below
+    piece_at (generation_sums_of d file key checks) (checks * d.k) (generations_of d) g
+    (length_generation_sums d file key checks) below
 
 -- the sums of a check, among those of its generation
 check_at : (d : Dimensions) (file key : List ℕ) (checks g check : ℕ) → check < checks
     → take d.k (drop (check * d.k) (generation_sums_of d file key checks g)) ≡ check_sums_of d file key g check
 unfolding generation_sums_of
-check_at d file key checks g check below = piece_at (check_sums_of d file key g) d.k checks check (length_check_sums d file key g) below
+check_at d file key checks g check below =
+    piece_at (check_sums_of d file key g) d.k checks check (length_check_sums d file key g) below
 
 -- a part of a part
 part_of_part : (size at whole : ℕ) (xs front : List ℕ) → take whole xs ≡ front → at + size ≤ length front
@@ -54,8 +57,8 @@ sums_at d file key checks g check below within =
         omega (arith, length_generation_sums d file key checks g)
 
 -- the equations of a file's ticket have the weighted sums of its blocks
-pub have_sums : (d : Dimensions) (file : List ℕ) (ticket : Ticket) (equations : Equations) (g : ℕ) → IsTicketOf d file ticket
-    → AreEquationsOf d ticket equations → g < generations_of d → HaveSumsOf equations g (generation_blocks_of d file g)
+pub have_sums : (d : Dimensions) (file : List ℕ) (ticket : Ticket) (equations : Equations) (g : ℕ)
+    → IsTicketOf d file ticket → AreEquationsOf d ticket equations → g < generations_of d → HaveSumsOf equations g (generation_blocks_of d file g)
 have_sums d file ticket equations g of_file of_ticket below = λ check within.
     let s = symbols_per_block d in
     let k_is = of_ticket.k in
@@ -69,11 +72,13 @@ have_sums d file ticket equations g of_file of_ticket below = λ check within.
     let own : take equations.s (drop (check * equations.s) equations.weights)
     ≡ take s (drop (check * s) (weights_of_checks ticket.key s ticket.checks)) = cc in
     place ∙ sums_at d file ticket.key ticket.checks g check below inside
-    ∙ ap (λ ws. map (dot_of ws) (generation_blocks_of d file g)) (sym (own ∙ weights_at ticket.key s ticket.checks check inside))
+    ∙ ap (λ ws. map (dot_of ws) (generation_blocks_of d file g))
+    (sym (own ∙ weights_at ticket.key s ticket.checks check inside))
 
 -- the equations of a ticket test the packets of the file's shape
-pub is_testable : (d : Dimensions) (ticket : Ticket) (equations : Equations) (packet : Packet) → AreEquationsOf d ticket equations
-    → AreEquations equations → Fits d.k (symbols_per_block d) packet → packet.generation < generations_of d → IsTestable equations packet
+pub is_testable : (d : Dimensions) (ticket : Ticket) (equations : Equations) (packet : Packet)
+    → AreEquationsOf d ticket equations → AreEquations equations → Fits d.k (symbols_per_block d) packet
+    → packet.generation < generations_of d → IsTestable equations packet
 is_testable d ticket equations packet of_ticket are fits below = record {
   are_equations = are;
   fits =

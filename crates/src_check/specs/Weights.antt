@@ -1,6 +1,6 @@
 -- The random weights of the checks, and the weighted sums of blocks.
--- key: the 32 bytes of a ticket's key. check: the number of a check, from 0, which is the number of its stream of random
--- words. place: that of a symbol in a block, from 0, which is the place of its word in the stream. s: the symbols of a block.
+-- key: the 32 bytes of a ticket's key. check: the number of a check, from 0, and of its stream of random words.
+-- place: that of a symbol in a block, from 0, and of its word in the stream. s: the symbols of a block.
 use Rattle.std.specs.Prelude.{ℕ, ◌*◌, ◌%◌, ◌^◌, List, map, take, drop}
 use Rattle.std.specs.List.{flat_map, range_with_len}
 use Rattle.rand_chacha.specs.ChaCha.{word_at, key_of}

@@ -11,17 +11,18 @@ ghost use Rattle.generation.specs.Shape.{Dimensions, IsShape, generations_of, sy
 ghost use Rattle.generation.specs.Blocks.{IsFile, blocks_of};
 ghost use Rattle.src_check.specs.Tickets.{AreEquationsOf, IsTicketOf, IsTrueToFile, generation_blocks_of};
 
-/// The blocks of a generation are as many vectors as it has, and the blocks of all generations in turn are those of the file.
+/// A generation has k blocks, vectors of a block's symbols, and the blocks of all generations in turn are those of the file.
 pub fn blocks_by_generation()
     ensures count { (d : Dimensions) (file : List ℕ) (g : ℕ) → length (generation_blocks_of d file g) ≡ d.k }
     ensures vectors { (d : Dimensions) (file : List ℕ) (g : ℕ) → IsShape d → IsFile d file → g < generations_of d
         → All (IsVector (symbols_per_block d)) (generation_blocks_of d file g) }
-    ensures in_order { (d : Dimensions) (file : List ℕ) → blocks_of d file ≡ flat_map (generation_blocks_of d file) (range_with_len 0 (generations_of d)) }
+    ensures in_order { (d : Dimensions) (file : List ℕ)
+        → blocks_of d file ≡ flat_map (generation_blocks_of d file) (range_with_len 0 (generations_of d)) }
 {
     generation::laws::cut_and_join();
 }
 
-/// The equations of a file's ticket have the weighted sums of its blocks, so every packet that is true to the file passes them.
+/// The equations of a file's ticket have the weighted sums of its blocks, so packets that are true to the file pass them.
 pub fn true_packets_pass()
     ensures sums { (d : Dimensions) (file : List ℕ) (ticket : Ticket) (equations : Equations) (g : ℕ)
         → IsTicketOf d file ticket → AreEquationsOf d ticket equations → g < generations_of d

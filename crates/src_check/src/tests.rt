@@ -37,8 +37,8 @@ fn has_word(rt: &impl Abort, key: [u8; 32], check: u8, place: u16, word: u32)
     );
 }
 
-// The words are those of RFC 8439, appendix A.1, and of `openssl enc -chacha20` of OpenSSL 3.0.19, whose initial value was the
-// number of the block of 16 words and then the stream, 8 bytes each, the low one first.
+// The words are those of RFC 8439, appendix A.1, and of `openssl enc -chacha20` of OpenSSL 3.0.19, whose initial value was
+// the number of the block of 16 words and then the stream, 8 bytes each, the low one first.
 #[test]
 fn weights_are_low_halves_of_words(rt: HostRuntime) {
     let zero = [0; 32];
@@ -66,7 +66,7 @@ fn a_ticket_of_one_check(rt: HostRuntime) -> Result<(), Fail> {
     Ok(())
 }
 
-// The weights are the low halves of words of `openssl enc -chacha20`; the sums were reckoned from them by hand-written python
+// The weights are the low halves of words of `openssl enc -chacha20`; the sums were reckoned from them by a python script
 // over the field's definition.
 #[test]
 #[tactic(auto, unfolding(generation::specs::Shape::generations_of))]

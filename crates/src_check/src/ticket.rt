@@ -74,7 +74,8 @@ fn append_generation_sums(
 ) -> Result<(), Memory>
     requires weights { length weights.now ≡ checks * s }
     requires blocks { All (IsVector s) blocks.now.items }
-    ensures { OnOk result (sums.new.items ≡ sums.old.items ++ flat_map (sums_by weights.now s blocks.now.items) (range_with_len 0 checks)) }
+    ensures { OnOk result (sums.new.items
+        ≡ sums.old.items ++ flat_map (sums_by weights.now s blocks.now.items) (range_with_len 0 checks)) }
 {
     for check in 0..checks {
         let check_weights = piece(weights, usize::from(check), usize::from(s));

@@ -14,6 +14,7 @@ returns-clause-pass c d file ticket equations packet shape is of_file of_ticket 
     let g = packet.generation in
     let blocks = generation_blocks_of d file g in
     c.checks.ensures.truth equations blocks packet (is_testable d ticket equations packet of_ticket are fits below)
-    (subst (λ n. All (IsVector n) blocks) (sym of_ticket.s) (c.blocks_by_generation.ensures.vectors d file g shape is below))
+    (subst (λ n. All (IsVector n) blocks) (sym of_ticket.s)
+    (c.blocks_by_generation.ensures.vectors d file g shape is below))
     (have_sums d file ticket equations g of_file of_ticket below)
     (subst (λ n. IsTrueTo n blocks packet) (sym of_ticket.s) true)

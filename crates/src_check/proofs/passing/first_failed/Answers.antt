@@ -18,7 +18,8 @@ returns-then-not-meets-clause-first c = λ t failing.
     let fails : Meets c.args.equations.now c.args.packet.now check → ⊥ =
     λ met. let holds : c.meets.result ≡ true = c.meets.ensures.1 met in cc in
     ap Some
-    (one_least (Meets c.args.equations.now c.args.packet.now) check t c.loop-check.invariant fails failing.first failing.fails)
+    (one_least (Meets c.args.equations.now c.args.packet.now) check t c.loop-check.invariant fails failing.first
+    failing.fails)
 
 pub returns-clause-first : goal.returns-clause-first
 returns-clause-first c = λ t failing.

@@ -5,4 +5,5 @@ use Rattle.src_check.proofs.ticket.append_generation_sums.Given as goal
 
 -- the sums of the checks so far
 abbrev pub invariant-loop-check : goal.invariant-loop-check
-invariant-loop-check l = l.sums.items ≡ l.fn.sums.items ++ flat_map (sums_by l.weights l.s l.blocks.items) (range_with_len 0 l.check)
+invariant-loop-check l =
+    l.sums.items ≡ l.fn.sums.items ++ flat_map (sums_by l.weights l.s l.blocks.items) (range_with_len 0 l.check)

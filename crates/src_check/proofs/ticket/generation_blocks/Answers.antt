@@ -17,14 +17,17 @@ blocks_more d file g i items block so_far is =
 vectors_more : (n : ℕ) (after items : List (List ℕ)) (block : List ℕ) → after ≡ items ++ block ∷ []
     → All (IsVector n) items → IsVector n block → All (IsVector n) after
 vectors_more n after items block is vectors vector =
-    subst (All (IsVector n)) (sym is) (All-append (IsVector n) items (block ∷ []) vectors (All-cons (IsVector n) block [] vector (All-nil (IsVector n))))
+    subst (All (IsVector n)) (sym is)
+    (All-append (IsVector n) items (block ∷ []) vectors (All-cons (IsVector n) block [] vector (All-nil (IsVector n))))
 
 pub loop-i-preserved : goal.loop-i-preserved
 loop-i-preserved c = record {
   blocks =
       c.in_ok-push.ensures.ok
-      ∙ blocks_more c.args.shape.now c.args.file.now c.args.g c.loop-i.i c.loop-i.blocks.items c.in_ok-block.block c.loop-i.invariant.blocks c.in_ok-block.ensures.value;
+      ∙ blocks_more c.args.shape.now c.args.file.now c.args.g c.loop-i.i c.loop-i.blocks.items c.in_ok-block.block
+      c.loop-i.invariant.blocks c.in_ok-block.ensures.value;
   vectors =
-      vectors_more (symbols_per_block c.args.shape.now) c.push.new.self.items c.loop-i.blocks.items c.in_ok-block.block c.in_ok-push.ensures.ok
+      vectors_more (symbols_per_block c.args.shape.now) c.push.new.self.items c.loop-i.blocks.items c.in_ok-block.block
+      c.in_ok-push.ensures.ok
       c.loop-i.invariant.vectors c.in_ok-block.ensures.vector;
 }
