@@ -32,7 +32,8 @@ sums_of equations generation check = take equations.k (drop ((generation * equat
 
 -- the sums of a generation are the weighted sums of these blocks, one for each
 abbrev pub HaveSumsOf : Equations → ℕ → List (List ℕ) → Type 0
-HaveSumsOf equations generation blocks = (check : ℕ) → check < equations.checks → sums_of equations generation check ≡ map (dot_of (weights_of equations check)) blocks
+HaveSumsOf equations generation blocks = (check : ℕ) → check < equations.checks
+    → sums_of equations generation check ≡ map (dot_of (weights_of equations check)) blocks
 
 -- the weighted sum of the payload is the sum of the coefficients times the sums of the blocks
 abbrev pub Meets : Equations → Packet → ℕ → Type 0

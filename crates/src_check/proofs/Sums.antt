@@ -30,7 +30,8 @@ pub length_file_sums : (d : Dimensions) (file key : List ℕ) (checks : ℕ)
     → length (file_sums_of d file key checks) ≡ generations_of d * checks * d.k
 unfolding file_sums_of
 length_file_sums d file key checks =
-    length_pieces (generation_sums_of d file key checks) (checks * d.k) (generations_of d) (length_generation_sums d file key checks)
+    length_pieces (generation_sums_of d file key checks) (checks * d.k) (generations_of d)
+    (length_generation_sums d file key checks)
     ∙ omega arith
 
 -- the weights of a check, among those of all checks

@@ -58,7 +58,8 @@ sums_at d file key checks g check below within =
 
 -- the equations of a file's ticket have the weighted sums of its blocks
 pub have_sums : (d : Dimensions) (file : List ℕ) (ticket : Ticket) (equations : Equations) (g : ℕ)
-    → IsTicketOf d file ticket → AreEquationsOf d ticket equations → g < generations_of d → HaveSumsOf equations g (generation_blocks_of d file g)
+    → IsTicketOf d file ticket → AreEquationsOf d ticket equations → g < generations_of d
+    → HaveSumsOf equations g (generation_blocks_of d file g)
 have_sums d file ticket equations g of_file of_ticket below = λ check within.
     let s = symbols_per_block d in
     let k_is = of_ticket.k in

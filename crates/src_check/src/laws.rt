@@ -11,7 +11,7 @@ ghost use Rattle.generation.specs.Shape.{Dimensions, IsShape, generations_of, sy
 ghost use Rattle.generation.specs.Blocks.{IsFile, blocks_of};
 ghost use Rattle.src_check.specs.Tickets.{AreEquationsOf, IsTicketOf, IsTrueToFile, generation_blocks_of};
 
-/// A generation has k blocks, vectors of a block's symbols, and the blocks of all generations in turn are those of the file.
+/// A generation has K blocks, vectors of a block's symbols, and the blocks of all generations in turn are the file's.
 pub fn blocks_by_generation()
     ensures count { (d : Dimensions) (file : List ℕ) (g : ℕ) → length (generation_blocks_of d file g) ≡ d.k }
     ensures vectors { (d : Dimensions) (file : List ℕ) (g : ℕ) → IsShape d → IsFile d file → g < generations_of d

@@ -30,7 +30,8 @@ pub fn check_is_linear(equations: &Equations, packets: &List<Packet>, coeffs: &S
 /// that have the weighted sums of these blocks.
 pub fn checks()
     ensures linear { (equations : equations_type) (packets : list packet_type) (coefficients : list ℕ)
-        (combined : packet_type) → AreEquations equations → AreSymbols coefficients → All (Fits equations.k equations.s) packets
+        (combined : packet_type) → AreEquations equations → AreSymbols coefficients
+        → All (Fits equations.k equations.s) packets
         → All (λ packet. packet.generation ≡ combined.generation) packets → All (Passes equations) packets
         → combined.coeffs ≡ combination_of equations.k coefficients (coefficients_of packets)
         → combined.payload ≡ combination_of equations.s coefficients (payloads_of packets)
