@@ -6,7 +6,7 @@ use Rattle.gf16.specs.Sums.{dot_of}
 
 dot_next : (i : ℕ) (u v : List ℕ) → i < length u → i < length v
     → dot_of (take (suc i) u) (take (suc i) v)
-        ≡ sum_of (dot_of (take i u) (take i v)) (product_of (get_or u i 0) (get_or v i 0))
+    ≡ sum_of (dot_of (take i u) (take i v)) (product_of (get_or u i 0) (get_or v i 0))
 dot_next i [] v within there = absurd (omega arith)
 dot_next i (x ∷ u) [] within there = absurd (omega arith)
 dot_next zero (x ∷ u) (y ∷ v) within there = xor_zero_r (product_of x y)
@@ -16,5 +16,5 @@ dot_next (suc i) (x ∷ u) (y ∷ v) within there =
 
 pub dot_more : (i : ℕ) (u v : List ℕ) → i < length u → i < length v
     → sum_of (dot_of (take i u) (take i v)) (product_of (get_or u i 0) (get_or v i 0))
-        ≡ dot_of (take (i + 1) u) (take (i + 1) v)
+    ≡ dot_of (take (i + 1) u) (take (i + 1) v)
 dot_more i u v within there = sym (dot_next i u v within there) ∙ ap (λ k. dot_of (take k u) (take k v)) (sym (add-one i))

@@ -19,7 +19,7 @@ get_or-plus_scaled-rest c (suc i) (x ∷ u) (y ∷ v) = get_or-plus_scaled-rest 
 
 set-plus_scaled : (c i : ℕ) (u v : List ℕ) → i < length u → i < length v
     → set (plus_scaled u c (take i v)) i (sum_of (get_or u i 0) (product_of c (get_or v i 0)))
-        ≡ plus_scaled u c (take (suc i) v)
+    ≡ plus_scaled u c (take (suc i) v)
 set-plus_scaled c i [] v within there = absurd (omega arith)
 set-plus_scaled c i (x ∷ u) [] within there = absurd (omega arith)
 set-plus_scaled c zero (x ∷ u) (y ∷ v) within there = ap (λ r. sum_of x (product_of c y) ∷ r) (sym (nothing_more c u))
@@ -31,6 +31,6 @@ pub plus_scaled_more : (c i : ℕ) (u v xs : List ℕ) → i < length u → i < 
 plus_scaled_more c i u v xs within there so_far =
     ap (λ w. set w i (sum_of (get_or w i 0) (product_of c (get_or v i 0)))) so_far
     ∙ ap (λ a. set (plus_scaled u c (take i v)) i (sum_of a (product_of c (get_or v i 0))))
-        (get_or-plus_scaled-rest c i u v)
+    (get_or-plus_scaled-rest c i u v)
     ∙ set-plus_scaled c i u v within there
     ∙ ap (λ k. plus_scaled u c (take k v)) (sym (add-one i))
