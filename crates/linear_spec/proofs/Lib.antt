@@ -1,3 +1,4 @@
+pub mod CheckLaws
 pub mod Decision
 pub mod Echelon
 pub mod PacketLaws

@@ -3,7 +3,7 @@
 -- checks: the number of checks. k, s: the numbers of coefficients and of payload symbols of a packet, so of the blocks of
 -- a generation and of the symbols of a block. generations: their number. weights: s symbols for each check. sums: for each
 -- generation and check k symbols, the weighted sum of each block.
-use Rattle.std.specs.Prelude.{◌≡◌, ℕ, ◌+◌, ◌*◌, ◌<◌, List, take, drop}
+use Rattle.std.specs.Prelude.{◌≡◌, ℕ, ◌+◌, ◌*◌, ◌<◌, List, take, drop, map}
 use Rattle.gf16.specs.Sums.{dot_of}
 use Rattle.linear_spec.specs.declared.equations.Equations.{Equations}
 use Rattle.linear_spec.specs.declared.packet.Packet.{Packet}
@@ -29,6 +29,11 @@ weights_of equations check = take equations.s (drop (check * equations.s) equati
 -- the sums of a check over the blocks of a generation
 abbrev pub sums_of : Equations → ℕ → ℕ → List ℕ
 sums_of equations generation check = take equations.k (drop ((generation * equations.checks + check) * equations.k) equations.sums)
+
+-- the sums of a generation are the weighted sums of these blocks, one for each
+abbrev pub HaveSumsOf : Equations → ℕ → List (List ℕ) → Type 0
+HaveSumsOf equations generation blocks = (check : ℕ) → check < equations.checks
+    → sums_of equations generation check ≡ map (dot_of (weights_of equations check)) blocks
 
 -- the weighted sum of the payload is the sum of the coefficients times the sums of the blocks
 abbrev pub Meets : Equations → Packet → ℕ → Type 0

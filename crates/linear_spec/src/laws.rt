@@ -1,4 +1,5 @@
 //! Laws over the definitions alone: each is the contract of a function that does nothing but take other laws.
+mod check_laws;
 mod reception_laws;
 mod row_calls;
 mod row_laws;
@@ -9,6 +10,7 @@ mod span_laws;
 ghost use Rattle.std.specs.Prelude.{◌≡◌, ◌*◌, ◌%◌, ℕ, List, length};
 ghost use Rattle.linear_spec.specs.Symbols.{AreBytes, AreSymbols, be_bytes_of, symbols_of};
 
+pub use check_laws::{check_is_linear, checks};
 pub use reception_laws::reception;
 pub use row_calls::{rows_fill, rows_rank, rows_span};
 pub use row_laws::{decision, one_case, ranks, reduction, rows};

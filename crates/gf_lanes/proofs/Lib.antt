@@ -1,0 +1,3 @@
+pub mod PlusScaled
+pub mod Scaled
+pub mod DotLemmas

@@ -1,0 +1,5 @@
+pub mod BlockLists
+pub mod Places
+pub mod Sums
+pub mod TrueLaws
+pub mod WeightCounts
