@@ -19,6 +19,7 @@ pub enum Kernel {
 }
 
 impl Kernel {
+    /// The kernel of a name, or `None` where it is none's.
     pub fn named(name: &str) -> Option<Kernel> {
         match name {
             "add_scaled" => Some(Kernel::AddScaled),

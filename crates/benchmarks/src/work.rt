@@ -36,7 +36,7 @@ impl Lanes {
 }
 
 impl Work {
-    /// The work that words name, or `None` where they name none.
+    /// The work that words name, or `None` where they name none. Of an odd number of bytes the last is left out.
     pub fn named(kernel: &str, lanes: &str, bytes: &str, turns: &str) -> Option<Work> {
         Some(Work {
             kernel: Kernel::named(kernel)?,
