@@ -1,5 +1,5 @@
 -- How the steps of a fetch make its end, and which ends are left where the packets have full rank.
-use Rattle.std.proofs.Common.{◌≡◌, ◌≢◌, ℕ, ◌<◌, List, [], ◌∷◌, length, refl, subst, sym, ◌∙◌, ◌⊎◌, inl, inr, arith}
+use Rattle.std.proofs.Common.{◌≡◌, ℕ, ◌<◌, Bool, true, false, List, [], ◌∷◌, length, refl, subst, sym, ◌∙◌, ◌⊎◌, inl, inr, arith}
 use Rattle.std.specs.Prelude.{Option, None, Some, Result, Ok, Err, IfSome, IfOk, IfErr, slice_get}
 use Rattle.sha2.specs.Sha256.{sha256}
 use Rattle.linear_spec.specs.List.{ListValue}
@@ -7,8 +7,8 @@ use Rattle.linear_spec.specs.Packet.{coefficients_of}
 use Rattle.linear_spec.specs.Span.{HasRank}
 use Rattle.packet_wire.specs.Stream.{Contents}
 use Rattle.avalanche_cli.specs.Trace.{IsLegalFetch}
-use Rattle.avalanche_cli.specs.Fetch.{HasFile, HasPacketRank, Holds, IsFetchable, LacksRank, receivers}
-use Rattle.avalanche_cli.specs.FetchSteps.{IsEnd, IsReceptionOf, IsWritten}
+use Rattle.avalanche_cli.specs.Fetch.{HasFile, HasPacketRank, Holds, IsFetchable, IsKept, IsTraceOf, LacksRank, receivers}
+use Rattle.avalanche_cli.specs.FetchSteps.{IsEnd, IsKeptUnless, IsReceptionOf, IsWritten}
 use Rattle.avalanche_cli.specs.Reception.{IsJudged, IsOnlyFileOf}
 use Rattle.avalanche_cli.specs.declared.trace.Trace.{Trace}
 use Rattle.avalanche_cli.specs.declared.end.End.{End}
@@ -52,34 +52,66 @@ has_file input contents trace file holds legal is = record {
   length_is = is.length_is;
 }
 
--- a file was written; where the end is no want of memory, the trace was kept
-end_of_written : (input before now : Option (List ℕ)) (trace kept : Trace) (Same Unread Unwritten Unheld : Type 0) (file : List ℕ) (end : End) → HasFile input trace (sha256 file) file → IsWritten file before now Unwritten Unheld end → (end ≢ Memory → kept ≡ trace) → IsEnd input kept before now Same Unread Unwritten Unheld end
-end_of_written input before now trace kept Same Unread Unwritten Unheld file Done has is same = record { file = file; has = rw (same (λ e. absurd cc)) has; gained = is }
-end_of_written input before now trace kept Same Unread Unwritten Unheld file ReadFault has is same = absurd is
-end_of_written input before now trace kept Same Unread Unwritten Unheld file WriteFault has is same = (record { file = file; has = rw (same (λ e. absurd cc)) has; gained = is.0 }, is.1)
-end_of_written input before now trace kept Same Unread Unwritten Unheld file (Incomplete generation rank) has is same = absurd is
-end_of_written input before now trace kept Same Unread Unwritten Unheld file (Mismatch found) has is same = absurd is
-end_of_written input before now trace kept Same Unread Unwritten Unheld file Memory has is same = inr (record { trace = trace; gives = record { file = file; has = has; gained = is.0 } }, is.1)
-end_of_written input before now trace kept Same Unread Unwritten Unheld file NotBuilt has is same = absurd is
+-- a file was written
+end_of_written : (input before now : Option (List ℕ)) (trace kept : Trace) (Same Unread Unwritten Unheld : Type 0) (file : List ℕ) (took : Bool) (end : End) → HasFile input trace (sha256 file) file → IsWritten file before now Unwritten Unheld took end → IsKeptUnless trace kept took end → IsEnd input kept before now Same Unread Unwritten Unheld end
+end_of_written input before now trace kept Same Unread Unwritten Unheld file took Done has is same = record { file = file; has = rw same has; gained = is }
+end_of_written input before now trace kept Same Unread Unwritten Unheld file took ReadFault has is same = absurd is
+end_of_written input before now trace kept Same Unread Unwritten Unheld file took WriteFault has is same = (record { file = file; has = rw same has; gained = is.0 }, is.1)
+end_of_written input before now trace kept Same Unread Unwritten Unheld file took (Incomplete generation rank) has is same = absurd is
+end_of_written input before now trace kept Same Unread Unwritten Unheld file took (Mismatch found) has is same = absurd is
+end_of_written input before now trace kept Same Unread Unwritten Unheld file false Memory has is same = inl (same, inr is)
+end_of_written input before now trace kept Same Unread Unwritten Unheld file true Memory has is same = inr (record { file = file; has = rw same has; gained = is.0 }, is.1)
+end_of_written input before now trace kept Same Unread Unwritten Unheld file took NotBuilt has is same = absurd is
 
 -- there was none to write
-end_of_stop : (input before now : Option (List ℕ)) (trace kept : Trace) (Same Unread Unwritten Unheld : Type 0) (contents : Contents) (end : End) → Holds input contents → IsLegalFetch receivers contents trace → IsJudged contents trace (Err end) → Same → (end ≢ Memory → kept ≡ trace) → IsEnd input kept before now Same Unread Unwritten Unheld end
+end_of_stop : (input before now : Option (List ℕ)) (trace kept : Trace) (Same Unread Unwritten Unheld : Type 0) (contents : Contents) (end : End) → Holds input contents → IsLegalFetch receivers contents trace → IsJudged contents trace (Err end) → Same → IsKeptUnless trace kept false end → IsEnd input kept before now Same Unread Unwritten Unheld end
 end_of_stop input before now trace kept Same Unread Unwritten Unheld contents Done holds legal judged was same = absurd judged
 end_of_stop input before now trace kept Same Unread Unwritten Unheld contents ReadFault holds legal judged was same = absurd judged
 end_of_stop input before now trace kept Same Unread Unwritten Unheld contents WriteFault holds legal judged was same = absurd judged
 end_of_stop input before now trace kept Same Unread Unwritten Unheld contents (Incomplete generation rank) holds legal judged was same =
     (was, (judged.0, record { contents = contents; holds = holds; rank_is = judged.1; below = judged.2 }))
 end_of_stop input before now trace kept Same Unread Unwritten Unheld contents (Mismatch found) holds legal judged was same =
-    (was, rw (same (λ e. absurd cc)) (record { digest = contents.manifest.digest; file = judged.file; has = has_file input contents trace judged.file holds legal judged.is_file; found_is = judged.found_is; differs = judged.differs }))
-end_of_stop input before now trace kept Same Unread Unwritten Unheld contents Memory holds legal judged was same = inl was
+    (was, rw same (record { digest = contents.manifest.digest; file = judged.file; has = has_file input contents trace judged.file holds legal judged.is_file; found_is = judged.found_is; differs = judged.differs }))
+end_of_stop input before now trace kept Same Unread Unwritten Unheld contents Memory holds legal judged was same = inl (same, inl was)
 end_of_stop input before now trace kept Same Unread Unwritten Unheld contents NotBuilt holds legal judged was same = absurd judged
 
-pub end_of_reception : (input before now : Option (List ℕ)) (trace kept : Trace) (Same Unread Unwritten Unheld : Type 0) (file : Result (ListValue ℕ) End) (end : End) → IsReceptionOf input trace file → IfOk file (λ f. IsWritten f.items before now Unwritten Unheld end) → IfErr file (λ e. (end ≡ e) × Same) → (end ≢ Memory → kept ≡ trace) → IsEnd input kept before now Same Unread Unwritten Unheld end
-end_of_reception input before now trace kept Same Unread Unwritten Unheld (Ok file) end is written stopped same =
+pub end_of_reception : (input before now : Option (List ℕ)) (trace kept : Trace) (Same Unread Unwritten Unheld : Type 0) (file : Result (ListValue ℕ) End) (end : End) → IsReceptionOf input trace file → IfOk file (λ f. (took : Bool) × IsWritten f.items before now Unwritten Unheld took end × IsKeptUnless trace kept took end) → IfErr file (λ e. (end ≡ e) × Same × IsKeptUnless trace kept false end) → IsEnd input kept before now Same Unread Unwritten Unheld end
+end_of_reception input before now trace kept Same Unread Unwritten Unheld (Ok file) end is written stopped =
     let has = has_file input is.contents trace file.items is.holds is.legal is.judged.is_file in
-    end_of_written input before now trace kept Same Unread Unwritten Unheld file.items end (subst (λ (d : List ℕ). HasFile input trace d file.items) (sym is.judged.digest) has) written same
-end_of_reception input before now trace kept Same Unread Unwritten Unheld (Err e) end is written stopped same =
-    subst (λ (x : End). IsEnd input kept before now Same Unread Unwritten Unheld x) (sym stopped.0) (end_of_stop input before now trace kept Same Unread Unwritten Unheld is.contents e is.holds is.legal is.judged stopped.1 (λ other. same (λ at. other (sym stopped.0 ∙ at))))
+    end_of_written input before now trace kept Same Unread Unwritten Unheld file.items written.0 end (subst (λ (d : List ℕ). HasFile input trace d file.items) (sym is.judged.digest) has) written.1 written.2
+end_of_reception input before now trace kept Same Unread Unwritten Unheld (Err e) end is written stopped =
+    let kept_at : IsKeptUnless trace kept false e = subst (λ (x : End). IsKeptUnless trace kept false x) stopped.0 stopped.2 in
+    subst (λ (x : End). IsEnd input kept before now Same Unread Unwritten Unheld x) (sym stopped.0) (end_of_stop input before now trace kept Same Unread Unwritten Unheld is.contents e is.holds is.legal is.judged stopped.1 kept_at)
+
+-- ---- what is kept
+
+-- what is kept after a file was written
+kept_of_written : (input before now : Option (List ℕ)) (trace kept : Trace) (Unwritten Unheld : Type 0) (file : List ℕ) (took : Bool) (end : End) → IsTraceOf input trace → IsWritten file before now Unwritten Unheld took end → IsKeptUnless trace kept took end → IsKept end input kept
+kept_of_written input before now trace kept Unwritten Unheld file took Done of is same = rw same of
+kept_of_written input before now trace kept Unwritten Unheld file took ReadFault of is same = absurd is
+kept_of_written input before now trace kept Unwritten Unheld file took WriteFault of is same = rw same of
+kept_of_written input before now trace kept Unwritten Unheld file took (Incomplete generation rank) of is same = absurd is
+kept_of_written input before now trace kept Unwritten Unheld file took (Mismatch found) of is same = absurd is
+kept_of_written input before now trace kept Unwritten Unheld file false Memory of is same = inl same
+kept_of_written input before now trace kept Unwritten Unheld file true Memory of is same = inr (rw same of)
+kept_of_written input before now trace kept Unwritten Unheld file took NotBuilt of is same = absurd is
+
+-- and where there was none to write
+kept_of_stop : (input : Option (List ℕ)) (contents : Contents) (trace kept : Trace) (end : End) → IsTraceOf input trace → IsJudged contents trace (Err end) → IsKeptUnless trace kept false end → IsKept end input kept
+kept_of_stop input contents trace kept Done of judged same = absurd judged
+kept_of_stop input contents trace kept ReadFault of judged same = absurd judged
+kept_of_stop input contents trace kept WriteFault of judged same = absurd judged
+kept_of_stop input contents trace kept (Incomplete generation rank) of judged same = rw same of
+kept_of_stop input contents trace kept (Mismatch found) of judged same = rw same of
+kept_of_stop input contents trace kept Memory of judged same = inl same
+kept_of_stop input contents trace kept NotBuilt of judged same = absurd judged
+
+pub kept_of_reception : (input before now : Option (List ℕ)) (trace kept : Trace) (Same Unwritten Unheld : Type 0) (file : Result (ListValue ℕ) End) (end : End) → IsReceptionOf input trace file → IfOk file (λ f. (took : Bool) × IsWritten f.items before now Unwritten Unheld took end × IsKeptUnless trace kept took end) → IfErr file (λ e. (end ≡ e) × Same × IsKeptUnless trace kept false end) → IsKept end input kept
+kept_of_reception input before now trace kept Same Unwritten Unheld (Ok file) end is written stopped =
+    kept_of_written input before now trace kept Unwritten Unheld file.items written.0 end (record { contents = is.contents; holds = is.holds; legal = is.legal }) written.1 written.2
+kept_of_reception input before now trace kept Same Unwritten Unheld (Err e) end is written stopped =
+    let kept_at : IsKeptUnless trace kept false e = subst (λ (x : End). IsKeptUnless trace kept false x) stopped.0 stopped.2 in
+    subst (λ (x : End). IsKept x input kept) (sym stopped.0) (kept_of_stop input is.contents trace kept e (record { contents = is.contents; holds = is.holds; legal = is.legal }) is.judged kept_at)
 
 -- ---- the words
 

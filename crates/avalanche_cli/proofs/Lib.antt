@@ -1,3 +1,4 @@
 pub mod EndLemmas
 pub mod ReceptionLemmas
 pub mod TraceLemmas
+pub mod WrittenLemmas

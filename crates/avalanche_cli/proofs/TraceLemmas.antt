@@ -1,10 +1,10 @@
 -- The calls of receivers that are dealt the packets one after another.
 use Rattle.std.proofs.Common.{◌≡◌, ◌≢◌, ℕ, ◌+◌, ◌<◌, ◌≤◌, ◌%◌, ◌^◌, cond, nat_lt, List, [], ◌∷◌, ◌++◌, length, map, get_or, Some, None, refl, sym, ap, ◌∙◌, subst, arith, inl, inr}
 use Rattle.std.specs.Prelude.{◌==◌}
-use Rattle.std.specs.List.{filter}
+use Rattle.std.specs.List.{All, filter}
 use Rattle.std.proofs.lemmas.List.{append-nil, length-append, length-map, map-append}
 use Rattle.std.proofs.Math.Nat.{mod-lt}
-use Rattle.std.proofs.lemmas.List.Elements.{filter-append}
+use Rattle.std.proofs.lemmas.List.Elements.{All-append, All-cons, All-nil, filter-append}
 use Rattle.std.proofs.lemmas.Bool.{cases_eq, cases_lt, ne_eqb, eq-eqb, cond_below, cond_above}
 use Rattle.linear_spec.specs.declared.equations.Equations.{Equations}
 use Rattle.linear_spec.specs.declared.packet.Packet.{Packet}
@@ -84,6 +84,13 @@ answered k s generations tag front packet (Innovative at) is = (λ check below. 
 answered k s generations tag front packet (NotInnovative at) is = (λ check below. absurd (omega arith), is)
 answered k s generations tag front packet (Conflicting at) is = (λ check below. absurd (omega arith), is)
 
+-- a record that an offer adds is its caller's
+listed_by : (receivers caller number tag : ℕ) (packet : Packet) (reply : Reply) → caller < receivers → All (λ record'. record'.caller < receivers) (record_by caller number (KeptOffer tag packet reply))
+listed_by receivers caller number tag packet (FailedCheck check at) low = All-nil (λ (r : Record). r.caller < receivers)
+listed_by receivers caller number tag packet (Innovative at) low = All-cons (λ (r : Record). r.caller < receivers) (record { caller = caller; call = number; packet = packet }) [] low (All-nil (λ (r : Record). r.caller < receivers))
+listed_by receivers caller number tag packet (NotInnovative at) low = All-nil (λ (r : Record). r.caller < receivers)
+listed_by receivers caller number tag packet (Conflicting at) low = All-nil (λ (r : Record). r.caller < receivers)
+
 packets_more : (records : List Record) (caller number tag : ℕ) (packet : Packet) (reply : Reply) → packets_of (records ++ record_by caller number (KeptOffer tag packet reply)) ≡ packets_of records ++ recorded packet reply
 packets_more records caller number tag packet (FailedCheck check at) = map-append (λ (r : Record). r.packet) records []
 packets_more records caller number tag packet (Innovative at) = map-append (λ (r : Record). r.packet) records (record { caller = caller; call = number; packet = packet } ∷ [])
@@ -139,6 +146,10 @@ module _ (old new : Basis) (receivers : ℕ) (packets : List Packet) (before aft
             ap (λ (c : CallerTrace). c.calls.items) (offers.keeps.others number other at) ∙ is.legal.calls number other low ∙ ap (map call_of) (sym (with_call_elsewhere receiver number call is.legal.kept at))
       ]
 
+  listed_are : All (λ record'. record'.caller < receivers) after.records.items
+  listed_are = subst (λ (r : List Record). All (λ record'. record'.caller < receivers) r) (sym records_are)
+      (All-append (λ (r : Record). r.caller < receivers) before.records.items (record_by receiver (length (is.legal.kept receiver)) call) is.legal.listed (listed_by receivers receiver (length (is.legal.kept receiver)) (length packets) p offers.reply below))
+
   offers_are : (number : ℕ) → number < receivers → AreOffersOf (dealt_to receivers number 0 (packets ++ p ∷ [])) (with_call (length packets % receivers) (KeptOffer (length packets) p offers.reply) is.legal.kept number)
   offers_are number low =
       elim (cases_eq number receiver) [
@@ -192,6 +203,7 @@ module _ (old new : Basis) (receivers : ℕ) (packets : List Packet) (before aft
       numbers = λ number other low. offers.keeps.numbers number other ∙ is.legal.numbers number other low;
       kept = with_call receiver call is.legal.kept;
       calls = calls_are;
+      listed = listed_are;
       offers = offers_are;
       legal = subst (λ (e : Equations). IsLegalHistory e (given_below receivers (with_call receiver call is.legal.kept)) after.records.items) (ap (λ (n : ℕ). unchecked n old.s 1) (sym k) ∙ ap (λ (n : ℕ). unchecked new.k n 1) (sym s))
           (subst (λ (r : List Record). IsLegalHistory (unchecked old.k old.s 1) (given_below receivers (with_call receiver call is.legal.kept)) r) (sym records_are)
@@ -225,6 +237,7 @@ received_none basis trace none together received empty is = record {
     numbers = is.numbers;
     kept = λ number. [];
     calls = is.calls;
+    listed = rw is.records (All-nil (λ (r : Record). r.caller < 2));
     offers = λ number low. tt;
     legal = rw is.records (together (unchecked basis.k basis.s 1) (given_below 2 (λ number. [])) [] 0 [] refl (alone (unchecked basis.k basis.s 1) none));
   };

@@ -1,7 +1,7 @@
 -- What `fetch` does with its input.
 -- input: the bytes that a source has left, where it tells them. contents: what a first stream holds. rank: that of the
 -- packets' coefficients. bases: what is kept of the basis of each generation.
-use Rattle.std.specs.Prelude.{◌≡◌, ◌≢◌, ◌≤◌, ◌<◌, ℕ, List, [], ◌∷◌, length, Option, IfSome, codes}
+use Rattle.std.specs.Prelude.{◌≡◌, ◌≢◌, ◌⊎◌, ◌≤◌, ◌<◌, ℕ, List, [], ◌∷◌, length, take, Option, IfSome, codes}
 use Rattle.std.specs.List.{flat_map}
 use Rattle.std.specs.Io.KnownBytes.{Appends}
 use Rattle.sha2.specs.Sha256.{sha256}
@@ -89,6 +89,10 @@ pub record HasFile (input : Option (List ℕ)) (trace : Trace) (digest file : Li
   pub only : (other : List ℕ) → IsFileOf contents.manifest.shape trace.bases.items other → other ≡ file
   pub length_is : length file ≡ contents.manifest.shape.len
 
+-- told bytes grow by a prefix of these that is not empty
+abbrev pub AppendsSome : Option (List ℕ) → Option (List ℕ) → List ℕ → Type 0
+AppendsSome old new bytes = (n : ℕ) × ((0 < n) × ((n ≤ length bytes) × Appends old new (take n bytes)))
+
 -- the file has the digest that the manifest says, and the output gained it
 pub record Gives (input : Option (List ℕ)) (trace : Trace) (output-before output-now : Option (List ℕ)) : Type 0 where
   pub file : List ℕ
@@ -101,10 +105,11 @@ pub record GivesPrefix (input : Option (List ℕ)) (trace : Trace) (output-befor
   pub has : HasFile input trace (sha256 file) file
   pub gained : AppendsPrefix output-before output-now file
 
--- the same for some trace, which is not kept
-pub record MayGive (input output-before output-now : Option (List ℕ)) : Type 0 where
-  pub trace : Trace
-  pub gives : GivesPrefix input trace output-before output-now
+-- the same, and the prefix has a byte at least
+pub record GivesSome (input : Option (List ℕ)) (trace : Trace) (output-before output-now : Option (List ℕ)) : Type 0 where
+  pub file : List ℕ
+  pub has : HasFile input trace (sha256 file) file
+  pub gained : AppendsSome output-before output-now file
 
 -- the file has this digest, and the manifest says another
 pub record HasOtherDigest (input : Option (List ℕ)) (trace : Trace) (found : List ℕ) : Type 0 where
@@ -126,12 +131,13 @@ pub record IsEmptyTrace (trace : Trace) : Type 0 where
   pub bases : trace.bases.items ≡ []
   pub sends : trace.sends.items ≡ []
 
--- what is kept of a run that ends so: where the packets were judged a legal trace, and else none
+-- what is kept of a run that ends so: where the packets were judged a legal trace, and else none. After want of memory there
+-- is a trace where the output took some of the file (see `run`)
 abbrev pub IsKept : End → Option (List ℕ) → Trace → Type 0
 IsKept Done input trace = IsTraceOf input trace
 IsKept WriteFault input trace = IsTraceOf input trace
 IsKept (Incomplete generation rank) input trace = IsTraceOf input trace
 IsKept (Mismatch found) input trace = IsTraceOf input trace
 IsKept ReadFault input trace = IsEmptyTrace trace
-IsKept Memory input trace = IsEmptyTrace trace
+IsKept Memory input trace = IsEmptyTrace trace ⊎ IsTraceOf input trace
 IsKept NotBuilt input trace = IsEmptyTrace trace

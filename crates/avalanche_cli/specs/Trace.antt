@@ -2,7 +2,7 @@
 -- receivers: the number of callers that receive, numbered from 0. index: the place of a packet in its stream, from 0, over
 -- all generations. kept: the calls of a receiver, each offer with its packet.
 use Rattle.std.specs.Prelude.{◌≡◌, ℕ, ◌+◌, ◌<◌, ◌%◌, Bool, ◌==◌, ◌&&◌, cond, nat_lt, List, [], ◌∷◌, length, map, Some, None, slice_index_or}
-use Rattle.std.specs.List.{filter}
+use Rattle.std.specs.List.{All, filter}
 use Rattle.linear_spec.specs.declared.equations.Equations.{Equations}
 use Rattle.linear_spec.specs.declared.packet.Packet.{Packet}
 use Rattle.basis_core.specs.declared.trace.BasisTrace.{BasisTrace}
@@ -45,7 +45,8 @@ abbrev pub given_below : ℕ → (ℕ → List KeptCall) → Given
 given_below count kept number = cond (nat_lt number count) (Some (kept number)) None
 
 -- the basis of a generation once the packets were received: it lists each receiver by its number, with its offers of the
--- packets that it got and with no other calls; and the records and all these calls are a legal history
+-- packets that it got and with no other calls; every record is a listed receiver's; and the records and all these calls are
+-- a legal history
 pub record IsLegalBasis (equations : Equations) (receivers : ℕ) (packets : List Packet) (generation : ℕ) (basis : BasisTrace) : Type 0 where
   pub peer : basis.peer ≡ 0
   pub generation_is : basis.generation ≡ generation
@@ -53,6 +54,7 @@ pub record IsLegalBasis (equations : Equations) (receivers : ℕ) (packets : Lis
   pub numbers : (number : ℕ) (other : CallerTrace) → number < receivers → (slice_index_or basis.callers.items number other).number ≡ number
   pub kept : ℕ → List KeptCall
   pub calls : (number : ℕ) (other : CallerTrace) → number < receivers → (slice_index_or basis.callers.items number other).calls.items ≡ map call_of (kept number)
+  pub listed : All (λ record'. record'.caller < receivers) basis.records.items
   pub offers : (number : ℕ) → number < receivers → AreOffersOf (dealt_to receivers number generation packets) (kept number)
   pub legal : IsLegalHistory equations (given_below receivers kept) basis.records.items
 

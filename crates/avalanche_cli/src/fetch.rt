@@ -1,15 +1,15 @@
-ghost use Rattle.std.specs.Prelude.{◌≡◌, ◌≢◌, ◌+◌, ◌≤◌, IfOk, IfErr, OnOk};
+ghost use Rattle.std.specs.Prelude.{◌≡◌, ◌+◌, ◌≤◌, Bool, false, IfOk, IfErr, OnOk};
 ghost use Rattle.std.specs.Io.KnownBytes.{IsAtEnd};
 ghost use Rattle.swarm_io.specs.Counts.{Rose};
 ghost use Rattle.swarm_io.specs.Moved.{TakesAtMost};
-ghost use Rattle.avalanche_cli.specs.Fetch.{IsEmptyTrace, IsKept, stream_limit};
-ghost use Rattle.avalanche_cli.specs.FetchSteps.{IsEnd, IsReceptionOf, IsRefusal, IsWritten};
+ghost use Rattle.avalanche_cli.specs.Fetch.{IsKept, stream_limit};
+ghost use Rattle.avalanche_cli.specs.FetchSteps.{IsEnd, IsKeptUnless, IsReceptionOf, IsRefusal, IsRestWritten, IsWritten};
 
 use crate::reception::{Reception, receive};
-use crate::{End, Outcome};
+use crate::{End, Outcome, Trace};
 use packet_wire::read_stream;
 use std::alloc::Global;
-use swarm_io::{Sink, Source, read_all, write_all_of};
+use swarm_io::{Sink, Source, WriteAllError, read_all, write_all_of};
 
 /// The most bytes that a stream may have.
 const MAX_STREAM: u64 = 67_108_864;
@@ -45,35 +45,79 @@ fn received<I: Source>(alloc: Global, input: &mut I) -> Result<Reception, End>
     Ok(receive(alloc, &stream)?)
 }
 
+/// How writing ended, and whether the output took any bytes.
+#[derive(Clone, Copy, Debug, PartialEq, Eq)]
+struct Written {
+    end: End,
+    took: bool,
+}
+
 /// Writes the file of received packets where they have one.
 fn finished<O: Sink>(alloc: Global, reception: Reception, output: &mut O) -> Outcome
-    ensures written { IfOk reception.file (λ file. IsWritten file.items (O.contents output.old) (O.contents output.new)
-        (Rose (O.faults output.old) (O.faults output.new)) (Rose (O.wants output.old) (O.wants output.new)) result.end) }
-    ensures stopped { IfErr reception.file (λ end. (result.end ≡ end) × (output.new ≡ output.old)) }
-    ensures memory { result.end ≡ End.Memory → IsEmptyTrace result.trace }
-    ensures kept { result.end ≢ End.Memory → result.trace ≡ reception.trace }
+    ensures written { IfOk reception.file (λ file. (took : Bool)
+        × IsWritten file.items (O.contents output.old) (O.contents output.new)
+        (Rose (O.faults output.old) (O.faults output.new)) (Rose (O.wants output.old) (O.wants output.new)) took result.end
+        × IsKeptUnless reception.trace result.trace took result.end) }
+    ensures stopped { IfErr reception.file (λ end. (result.end ≡ end) × (output.new ≡ output.old)
+        × IsKeptUnless reception.trace result.trace false result.end) }
     ensures faults { O.faults output.old ≤ O.faults output.new }
     ensures wants { O.wants output.old ≤ O.wants output.new }
 {
     let Reception { trace, file } = reception;
-    let end = match file {
-        Ok(file) => written(output, file.as_slice()),
-        Err(end) => end,
+    let written = match file {
+        Ok(file) => write_file(output, file.as_slice()),
+        Err(end) => Written { end, took: false },
     };
-    if end == End::Memory {
-        return Outcome::without_trace(alloc, end);
+    outcome_of(alloc, trace, written)
+}
+
+/// The outcome: with no trace where memory was wanted and the output took nothing.
+fn outcome_of(alloc: Global, trace: Trace, written: Written) -> Outcome
+    ensures end { result.end ≡ written.end }
+    ensures kept { IsKeptUnless trace result.trace written.took result.end }
+{
+    if written.end == End::Memory && !written.took {
+        return Outcome::without_trace(alloc, written.end);
     }
-    Outcome { end, trace }
+    Outcome {
+        end: written.end,
+        trace,
+    }
 }
 
 /// Writes a file, all of it.
-fn written<O: Sink>(output: &mut O, file: &[u8]) -> End
-    ensures end { IsWritten file.now (O.contents output.old) (O.contents output.new)
+fn write_file<O: Sink>(output: &mut O, file: &[u8]) -> Written
+    ensures written { IsWritten file.now (O.contents output.old) (O.contents output.new)
+        (Rose (O.faults output.old) (O.faults output.new)) (Rose (O.wants output.old) (O.wants output.new)) result.took result.end }
+    ensures faults { O.faults output.old ≤ O.faults output.new }
+    ensures wants { O.wants output.old ≤ O.wants output.new }
+{
+    if file.is_empty() {
+        return Written {
+            end: End::Done,
+            took: false,
+        };
+    }
+    match output.write(file) {
+        Ok(count) => Written {
+            end: write_rest(output, &file[count..]),
+            took: true,
+        },
+        Err(refusal) => Written {
+            end: End::from(WriteAllError::from(refusal)),
+            took: false,
+        },
+    }
+}
+
+/// Writes what is left of a file.
+fn write_rest<O: Sink>(output: &mut O, rest: &[u8]) -> End
+    ensures end { IsRestWritten rest.now (O.contents output.old) (O.contents output.new)
         (Rose (O.faults output.old) (O.faults output.new)) (Rose (O.wants output.old) (O.wants output.new)) result }
     ensures faults { O.faults output.old ≤ O.faults output.new }
     ensures wants { O.wants output.old ≤ O.wants output.new }
 {
-    match write_all_of(output, file) {
+    match write_all_of(output, rest) {
         Ok(()) => End::Done,
         Err(error) => End::from(error),
     }

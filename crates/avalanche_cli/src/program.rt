@@ -1,9 +1,9 @@
 ghost use Rattle.std.specs.Prelude.{◌≡◌, ◌⊎◌, ◌+◌, ◌≤◌, ◌<◌, ◌↔◌, ℕ, List as list, IfSome, IsTrue};
-ghost use Rattle.std.specs.Io.KnownBytes.{IsAtEnd};
+ghost use Rattle.std.specs.Io.KnownBytes.{IsAtEnd, Keeps};
 ghost use Rattle.swarm_io.specs.Counts.{Rose};
 ghost use Rattle.swarm_io.specs.Moved.{TakesAtMost};
 ghost use Rattle.packet_wire.specs.Stream.{Contents};
-ghost use Rattle.avalanche_cli.specs.Fetch.{Gives, GivesPrefix, HasOtherDigest, HasPacketRank, IsFetch, IsFetchable, IsKept, IsUnfetchable, LacksRank, MayGive, stream_limit};
+ghost use Rattle.avalanche_cli.specs.Fetch.{Gives, GivesPrefix, GivesSome, HasOtherDigest, HasPacketRank, IsEmptyTrace, IsFetch, IsFetchable, IsKept, IsUnfetchable, LacksRank, stream_limit};
 
 use crate::fetch::fetch;
 use crate::{End, Outcome};
@@ -71,7 +71,9 @@ pub fn run<R: Threads + Sync, I: Source, O: Sink, E: Sink>(
     ensures write_fault_leaves_prefix { result.end ≡ End.WriteFault
         → GivesPrefix (I.remaining input.old) result.trace (O.contents output.old) (O.contents output.new) }
     ensures memory_leaves { result.end ≡ End.Memory
-        → (output.new ≡ output.old) ⊎ (MayGive (I.remaining input.old) (O.contents output.old) (O.contents output.new)
+        → (IsEmptyTrace result.trace × ((output.new ≡ output.old) ⊎ (Keeps (O.contents output.old) (O.contents output.new)
+        × Rose (O.wants output.old) (O.wants output.new))))
+        ⊎ (GivesSome (I.remaining input.old) result.trace (O.contents output.old) (O.contents output.new)
         × Rose (O.wants output.old) (O.wants output.new)) }
 
     // Counts never fall, and no more is read than the limit and one byte.
