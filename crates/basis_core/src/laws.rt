@@ -1,6 +1,8 @@
 //! Laws over the definitions alone: each is the contract of a function that does nothing but take other laws.
 mod history_laws;
 mod record_laws;
+mod trace_laws;
 
 pub use history_laws::histories;
 pub use record_laws::{callers, records};
+pub use trace_laws::traces;
