@@ -1,7 +1,7 @@
 -- The machine over events: what an event is answered, and what a list of events makes of the empty basis.
 -- event: a call that is to be answered. failed: of an offer, the first check that the packet fails, or nothing where it
--- passes: the event says so, and the machine believes it. callers: who made the calls so far, in order. k, s: the numbers of
--- coefficients and of payload symbols of each packet.
+-- passes: the event says so, and the machine believes it. callers: who made the calls so far, in order. k, s: the numbers
+-- of coefficients and of payload symbols of each packet.
 use Rattle.std.specs.Prelude.{◌≡◌, ℕ, ◌<◌, ◌^◌, ◌==◌, List, [], ◌∷◌, ◌++◌, length, Option, Some, None}
 use Rattle.std.specs.List.{All, filter}
 use Rattle.linear_spec.specs.declared.packet.Packet.{Packet}
