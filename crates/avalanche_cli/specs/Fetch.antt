@@ -99,7 +99,7 @@ pub record Gives (input : Option (List ℕ)) (trace : Trace) (output-before outp
   pub has : HasFile input trace (sha256 file) file
   pub gained : Appends output-before output-now file
 
--- the same, but the output gained only a prefix of it
+-- the same, but the output gained a prefix of it
 pub record GivesPrefix (input : Option (List ℕ)) (trace : Trace) (output-before output-now : Option (List ℕ)) : Type 0 where
   pub file : List ℕ
   pub has : HasFile input trace (sha256 file) file
@@ -131,8 +131,8 @@ pub record IsEmptyTrace (trace : Trace) : Type 0 where
   pub bases : trace.bases.items ≡ []
   pub sends : trace.sends.items ≡ []
 
--- what is kept of a run that ends so: where the packets were judged a legal trace, and else none. After want of memory there
--- is a trace where the output took some of the file (see `run`)
+-- what is kept of a run that ends so: a legal trace where the packets were judged, and else none. After want of memory there
+-- is a trace where the output took some of the file: the contract of `run` says when
 abbrev pub IsKept : End → Option (List ℕ) → Trace → Type 0
 IsKept Done input trace = IsTraceOf input trace
 IsKept WriteFault input trace = IsTraceOf input trace

@@ -39,7 +39,7 @@ pub fn run<R: Threads + Sync, I: Source, O: Sink, E: Sink>(
     ensures mismatch { (found : list ℕ) → result.end ≡ End.Mismatch found
         → HasOtherDigest (I.remaining input.old) result.trace found }
 
-    // A stream of full rank ends in one of these two, unless a fault came or memory was wanted.
+    // A first stream of full rank gives one of these two ends, unless a fault came or memory was wanted.
     ensures full_rank { IsFetch words.now → IfSome (I.remaining input.old) (λ bytes. (contents : Contents)
         → IsFetchable bytes contents → HasPacketRank contents contents.manifest.shape.k
         → ¬ Rose (I.faults input.old) (I.faults input.new) → ¬ Rose (O.faults output.old) (O.faults output.new)
@@ -53,7 +53,7 @@ pub fn run<R: Threads + Sync, I: Source, O: Sink, E: Sink>(
         → ¬ Rose (I.faults input.old) (I.faults input.new)
         → (result.end ≡ End.Incomplete 0 rank) ⊎ (result.end ≡ End.Memory)) }
 
-    // NotBuilt: exactly where the input is no first stream, unless a fault came or memory was wanted.
+    // NotBuilt: exactly where the input is no first stream within the limit, unless a fault came or memory was wanted.
     ensures not_built { IsFetch words.now → result.end ≡ End.NotBuilt → IfSome (I.remaining input.old) IsUnfetchable }
     ensures unfetchable { IsFetch words.now → IfSome (I.remaining input.old) (λ bytes. IsUnfetchable bytes
         → ¬ Rose (I.faults input.old) (I.faults input.new)

@@ -45,7 +45,7 @@ pub record Gains (before after : Given) (number : ℕ) (calls : List KeptCall) (
   pub now : after number ≡ Some (calls ++ call ∷ [])
   pub others : (other : ℕ) → other ≢ number → after other ≡ before other
 
--- an answer that recorded nothing is the sequential one over these records: at its point, which they reach
+-- the answer of a call is the sequential one over these records: at its point, which they reach
 pub record IsAnsweredOver (equations : Equations) (records : List Record) (call : KeptCall) : Type 0 where
   pub within : point_of call ≤ length records
   pub answered : IsAnsweredAt equations (take (point_of call) (packets_of records)) call

@@ -5,3 +5,4 @@ pub mod Legal
 pub mod Machine
 pub mod Merge
 pub mod Run
+pub mod Traces

@@ -1,7 +1,7 @@
 -- The machine over events: what an event is answered, and what a list of events makes of the empty basis.
 -- event: a call that is to be answered. failed: of an offer, the first check that the packet fails, or nothing where it
--- passes: the event says so, and the machine believes it. callers: who made the calls so far, in order. k, s: the numbers of
--- coefficients and of payload symbols of each packet.
+-- passes: the event says so, and the machine believes it. callers: who made the calls so far, in order. k, s: the numbers
+-- of coefficients and of payload symbols of each packet.
 use Rattle.std.specs.Prelude.{◌≡◌, ℕ, ◌<◌, ◌^◌, ◌==◌, List, [], ◌∷◌, ◌++◌, length, Option, Some, None}
 use Rattle.std.specs.List.{All, filter}
 use Rattle.linear_spec.specs.declared.packet.Packet.{Packet}
@@ -55,7 +55,7 @@ IsAnswerTo k s front (Offer caller tag failed packet) (Drew drawn) = ⊥
 IsAnswerTo k s front (Draw caller tag) (Offered reply) = ⊥
 IsAnswerTo k s front (Draw caller tag) (Drew drawn) = IsDrawnAt front drawn
 
--- the record that an event adds by its answer, if any: its call is the number of earlier calls of its caller
+-- the record that an event adds by its answer, if any: it is numbered by how many calls its caller had made before
 abbrev pub new_records : List ℕ → Event → Answer → List Record
 new_records callers (Offer caller tag failed packet) (Offered reply) =
     recorded (record { caller = caller; call = calls_so_far callers caller; packet = packet }) reply

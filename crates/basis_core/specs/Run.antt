@@ -26,7 +26,7 @@ AreAnsweredFrom equations [] front = Unit {0}
 AreAnsweredFrom equations (made ∷ rest) front =
     IsAnsweredAt equations front made.call × AreAnsweredFrom equations rest (front ++ option_to_list (recorded_by made.call))
 
--- the record of a recording call: its number is the number of earlier calls of its caller
+-- the record of a recording call: it is numbered by how many calls its caller had made before
 abbrev pub record_of : CallBy → List CallBy → List Record
 record_of made earlier =
     map (λ packet. record { caller = made.caller; call = length (filter (is_by made.caller) earlier); packet = packet }) (option_to_list (recorded_by made.call))

@@ -2,7 +2,9 @@
 mod history_laws;
 mod record_laws;
 mod step_laws;
+mod trace_laws;
 
 pub use history_laws::histories;
 pub use record_laws::{callers, records};
 pub use step_laws::steps;
+pub use trace_laws::traces;

@@ -9,6 +9,7 @@ mod order;
 mod reduce;
 mod trace;
 
+pub use entry::Entry;
 pub use machine::{Core, replay};
 pub use order::merge;
 pub use trace::{Answer, BasisTrace, Call, CallerOffers, CallerTrace, Event, Replayed};

@@ -15,8 +15,8 @@ use std::marker::Model;
 
 /// The sequential basis as a machine: it answers one event after the other, and keeps the records.
 ///
-/// Contracts see its packets' lengths, the callers of the events so far, and the records. Beside each record it keeps a row,
-/// which a packet is reduced by. No packet's generation is looked at.
+/// Contracts see its packets' lengths, the callers of the events so far, and the records. Beside each record it keeps a
+/// row, which a packet is reduced by. No packet's generation is looked at.
 #[derive(Debug, Drop)]
 pub struct Core {
     alloc: Global,

@@ -25,8 +25,8 @@ pub fn records()
     linear_spec::laws::rows();
 }
 
-/// The given callers of a legal history: each call was answered as the sequential basis does over the records, at its point,
-/// which is at most their number; and the merge has the caller's calls once each, in the caller's own order.
+/// The given callers of a legal history: each call was answered as the sequential basis does over the records, at its
+/// point, which is at most their number; and the merge has the caller's calls once each, in the caller's own order.
 pub fn callers()
     ensures answered { (equations : Equations) (given : Given) (records : List Record) (number : ℕ) (calls : List KeptCall)
         → IsLegalHistory equations given records → given number ≡ Some calls → All (IsAnsweredOver equations records) calls }

@@ -1,0 +1,13 @@
+use Rattle.basis_core.proofs.Merged.{entries_complete, trace_merged}
+use Rattle.basis_core.proofs.TraceReplays.{trace_replays}
+use Rattle.basis_core.proofs.laws.trace_laws.traces.Goals as goal
+
+pub returns-clause-complete : goal.returns-clause-complete
+returns-clause-complete c = λ caller own has.
+    entries_complete caller.number caller.calls.items own.packets.items own.failed.items has.packets has.failed
+
+pub returns-clause-merged : goal.returns-clause-merged
+returns-clause-merged c = trace_merged
+
+pub returns-clause-replays : goal.returns-clause-replays
+returns-clause-replays c = trace_replays
