@@ -1,5 +1,5 @@
 -- How the steps of a fetch make its end, and which ends are left where the packets have full rank.
-use Rattle.std.proofs.Common.{◌≡◌, ℕ, ◌<◌, Bool, true, false, List, [], ◌∷◌, length, refl, subst, sym, ◌∙◌, ◌⊎◌, inl, inr, arith}
+use Rattle.std.proofs.Common.{◌≡◌, ℕ, ◌<◌, Bool, true, false, List, [], ◌∷◌, length, refl, subst, sym, ◌⊎◌, inl, inr, arith}
 use Rattle.std.specs.Prelude.{Option, None, Some, Result, Ok, Err, IfSome, IfOk, IfErr, slice_get}
 use Rattle.sha2.specs.Sha256.{sha256}
 use Rattle.linear_spec.specs.List.{ListValue}

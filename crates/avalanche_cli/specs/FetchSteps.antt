@@ -1,7 +1,7 @@
 -- How the steps of `fetch` end: for its private functions.
 -- before, now: what a sink holds, where it tells that. Same: that the output is as it was. Unread, Unwritten, Unheld: that
 -- the counts of the input's faults, of the output's faults and of the output's wants rose.
-use Rattle.std.specs.Prelude.{◌≡◌, ◌⊎◌, ℕ, Bool, true, false, List, [], Option, IfSome, Result}
+use Rattle.std.specs.Prelude.{◌≡◌, ◌⊎◌, ℕ, Bool, true, false, List, Option, IfSome, Result}
 use Rattle.std.specs.Io.KnownBytes.{Appends, Keeps}
 use Rattle.linear_spec.specs.List.{ListValue}
 use Rattle.swarm_io.specs.Moved.{AppendsPrefix}
