@@ -16,3 +16,4 @@ pub mod TraceReplays
 pub mod Whole
 pub mod Worked
 pub mod Steps
+pub mod Recorded

@@ -1,9 +1,10 @@
 -- Legal histories: when the calls of callers and a list of records can be what one sequential basis answered and kept.
 -- given: for each caller number, the calls of that caller, or nothing where they are not known. records: the records of the
 -- basis, or the first of them.
-use Rattle.std.specs.Prelude.{◌≡◌, ◌≢◌, ℕ, ◌<◌, ◌≤◌, ◌^◌, ◌==◌, Bool, List, [], ◌∷◌, ◌++◌, length, map, take, Some}
+use Rattle.std.specs.Prelude.{◌≡◌, ◌≢◌, ◌⊎◌, ℕ, ◌<◌, ◌≤◌, ◌^◌, ◌==◌, Bool, List, [], ◌∷◌, ◌++◌, length, map, take, Some}
 use Rattle.std.specs.List.{filter}
 use Rattle.linear_spec.specs.declared.equations.Equations.{Equations}
+use Rattle.linear_spec.specs.declared.packet.Packet.{Packet}
 use Rattle.linear_spec.specs.declared.record.Record.{Record}
 use Rattle.linear_spec.specs.SequentialBasis.{packets_of}
 use Rattle.linear_spec.specs.Passing.{Passes}
@@ -64,3 +65,8 @@ HaveSeenAtMost n (call ∷ calls) = (seen_after call ≤ n) × HaveSeenAtMost n 
 -- the record that a caller's call of this number adds, if it recorded
 abbrev pub record_by : ℕ → ℕ → KeptCall → List Record
 record_by caller number call = map (λ packet. record { caller = caller; call = number; packet = packet }) (option_to_list (recorded_by call))
+
+-- one of the calls recorded this packet
+abbrev pub IsRecordedIn : List KeptCall → Packet → Type 0
+IsRecordedIn [] packet = ⊥
+IsRecordedIn (call ∷ calls) packet = (recorded_by call ≡ Some packet) ⊎ IsRecordedIn calls packet

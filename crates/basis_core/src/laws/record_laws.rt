@@ -8,7 +8,7 @@ ghost use Rattle.linear_spec.specs.SequentialBasis.{packets_of};
 ghost use Rattle.basis_core.specs.Calls.{KeptCall};
 ghost use Rattle.basis_core.specs.Run.{AreInnovative, is_by};
 ghost use Rattle.basis_core.specs.Merge.{Given, given_by, made_by, all_calls, merge_of};
-ghost use Rattle.basis_core.specs.Legal.{IsLegalHistory, IsAnsweredOver};
+ghost use Rattle.basis_core.specs.Legal.{IsLegalHistory, IsAnsweredOver, IsRecordedIn};
 
 /// The records of a legal history: each packet passes and is fresh at those before it, so there are at most K of them; and
 /// any records of which this holds are a legal history by themselves, nobody's calls being given.
@@ -33,4 +33,7 @@ pub fn callers()
     ensures once { (equations : Equations) (given : Given) (records : List Record) (number : ℕ) (calls : List KeptCall)
         → IsLegalHistory equations given records → given number ≡ Some calls
         → filter (is_by number) (merge_of (all_calls given records)) ≡ map (made_by number) calls }
+    ensures recorded { (equations : Equations) (given : Given) (records : List Record) (number : ℕ) (calls : List KeptCall)
+        → IsLegalHistory equations given records → given number ≡ Some calls
+        → All (λ record'. record'.caller ≡ number → IsRecordedIn calls record'.packet) records }
 {}
