@@ -16,11 +16,11 @@ use Rattle.avalanche_cli.specs.declared.end.End.TheVariants.{Done, ReadFault, Wr
 
 -- ---- full rank
 
-same_contents : (bytes : List ℕ) (contents other : Contents) → Holds (Some bytes) contents → IsFetchable bytes other → other ≡ contents
+pub same_contents : (bytes : List ℕ) (contents other : Contents) → Holds (Some bytes) contents → IsFetchable bytes other → other ≡ contents
 same_contents bytes contents other holds fetchable = holds.only other (subst (λ (b : List ℕ). IsFetchable b other) holds.told fetchable)
 
 -- an input of full rank has no lower rank
-no_low_rank : (bytes : List ℕ) (contents : Contents) (rank : ℕ) → ((n : ℕ) (vectors : List (List ℕ)) (r q : ℕ) → HasRank n vectors r → HasRank n vectors q → r ≡ q) → LacksRank (Some bytes) rank → IsFetchable bytes contents → HasPacketRank contents contents.manifest.shape.k → ⊥
+pub no_low_rank : (bytes : List ℕ) (contents : Contents) (rank : ℕ) → ((n : ℕ) (vectors : List (List ℕ)) (r q : ℕ) → HasRank n vectors r → HasRank n vectors q → r ≡ q) → LacksRank (Some bytes) rank → IsFetchable bytes contents → HasPacketRank contents contents.manifest.shape.k → ⊥
 no_low_rank bytes contents rank one lacks fetchable full =
     let same = same_contents bytes lacks.contents contents lacks.holds fetchable in
     let rank_is = subst (λ (c : Contents). HasPacketRank c rank) (sym same) lacks.rank_is in

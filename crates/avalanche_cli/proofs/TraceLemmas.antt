@@ -57,7 +57,7 @@ with_call_here receiver number call kept at = rw (eq-eqb number receiver at) ref
 with_call_elsewhere : (receiver number : ℕ) (call : KeptCall) (kept : ℕ → List KeptCall) → number ≢ receiver → with_call receiver call kept number ≡ kept number
 with_call_elsewhere receiver number call kept at = rw (ne_eqb number receiver at) refl
 
-given_here : (count number : ℕ) (kept : ℕ → List KeptCall) → number < count → given_below count kept number ≡ Some (kept number)
+pub given_here : (count number : ℕ) (kept : ℕ → List KeptCall) → number < count → given_below count kept number ≡ Some (kept number)
 given_here count number kept below = sym (cond_below number count (Some (kept number)) None below)
 
 given_none : (count number : ℕ) (kept : ℕ → List KeptCall) → count ≤ number → given_below count kept number ≡ None

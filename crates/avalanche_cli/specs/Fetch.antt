@@ -55,6 +55,10 @@ receivers = 2
 abbrev pub HasPacketRank : Contents → ℕ → Type 0
 HasPacketRank contents rank = HasRank contents.manifest.shape.k (coefficients_of contents.packets) rank
 
+-- every packet is true to these blocks, as many as a generation has
+abbrev pub AreTrueTo : Contents → List (List ℕ) → Type 0
+AreTrueTo contents blocks = Solves contents.manifest.shape.k (symbols_per_block contents.manifest.shape) contents.packets blocks
+
 -- these blocks, a list for each basis, solve its records, which are as many as a generation has blocks
 abbrev pub SolveEach : ℕ → ℕ → List BasisTrace → List (List (List ℕ)) → Type 0
 SolveEach k s [] [] = Unit {0}

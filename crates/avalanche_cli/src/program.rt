@@ -1,9 +1,11 @@
 ghost use Rattle.std.specs.Prelude.{◌≡◌, ◌⊎◌, ◌+◌, ◌≤◌, ◌<◌, ◌↔◌, ℕ, List as list, IfSome, IsTrue};
-ghost use Rattle.std.specs.Io.KnownBytes.{IsAtEnd, Keeps};
+ghost use Rattle.std.specs.Io.KnownBytes.{Appends, IsAtEnd, Keeps};
+ghost use Rattle.sha2.specs.Sha256.{sha256};
 ghost use Rattle.swarm_io.specs.Counts.{Rose};
 ghost use Rattle.swarm_io.specs.Moved.{TakesAtMost};
+ghost use Rattle.generation.specs.Blocks.{file_of};
 ghost use Rattle.packet_wire.specs.Stream.{Contents};
-ghost use Rattle.avalanche_cli.specs.Fetch.{Gives, GivesPrefix, GivesSome, HasOtherDigest, HasPacketRank, IsEmptyTrace, IsFetch, IsFetchable, IsKept, IsUnfetchable, LacksRank, stream_limit};
+ghost use Rattle.avalanche_cli.specs.Fetch.{AreTrueTo, Gives, GivesPrefix, GivesSome, HasOtherDigest, HasPacketRank, IsEmptyTrace, IsFetch, IsFetchable, IsKept, IsUnfetchable, LacksRank, stream_limit};
 
 use crate::fetch::fetch;
 use crate::{End, Outcome};
@@ -44,6 +46,14 @@ pub fn run<R: Threads + Sync, I: Source, O: Sink, E: Sink>(
         → IsFetchable bytes contents → HasPacketRank contents contents.manifest.shape.k
         → ¬ Rose (I.faults input.old) (I.faults input.new) → ¬ Rose (O.faults output.old) (O.faults output.new)
         → (result.end ≡ End.Done) ⊎ (((found : list ℕ) × (result.end ≡ End.Mismatch found)) ⊎ (result.end ≡ End.Memory))) }
+
+    // Where all its packets are true to the blocks of a file with the manifest's digest, it gives that file.
+    ensures true_packets { IsFetch words.now → IfSome (I.remaining input.old) (λ bytes. (contents : Contents) (blocks : list (list ℕ))
+        → IsFetchable bytes contents → HasPacketRank contents contents.manifest.shape.k → AreTrueTo contents blocks
+        → sha256 (file_of contents.manifest.shape blocks) ≡ contents.manifest.digest
+        → ¬ Rose (I.faults input.old) (I.faults input.new) → ¬ Rose (O.faults output.old) (O.faults output.new)
+        → ((result.end ≡ End.Done) × Appends (O.contents output.old) (O.contents output.new) (file_of contents.manifest.shape blocks))
+        ⊎ (result.end ≡ End.Memory)) }
 
     // Incomplete: exactly where the packets' rank is too low, unless a fault came or memory was wanted.
     ensures incomplete { (generation rank : ℕ) → result.end ≡ End.Incomplete generation rank
@@ -89,6 +99,7 @@ pub fn run<R: Threads + Sync, I: Source, O: Sink, E: Sink>(
     }
     let outcome = fetch(alloc, input, output);
     linear_spec::laws::ranks();
+    basis_core::laws::callers();
     outcome
 }
 
