@@ -17,3 +17,4 @@ pub mod Whole
 pub mod Worked
 pub mod Steps
 pub mod Recorded
+pub mod OneReplay

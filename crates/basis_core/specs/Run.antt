@@ -1,6 +1,6 @@
 -- Runs of the sequential basis over calls of many callers.
 -- caller: who made a call, a number. front: the packets recorded before. earlier: the calls made before.
-use Rattle.std.specs.Prelude.{◌≡◌, ℕ, Bool, ◌==◌, List, [], ◌∷◌, ◌++◌, length, map}
+use Rattle.std.specs.Prelude.{ℕ, Bool, ◌==◌, List, [], ◌∷◌, ◌++◌, length, map}
 use Rattle.std.specs.List.{filter}
 use Rattle.std.specs.Option.{option_to_list}
 use Rattle.linear_spec.specs.declared.equations.Equations.{Equations}
@@ -35,11 +35,6 @@ record_of made earlier =
 abbrev pub records_after : List CallBy → List CallBy → List Record
 records_after [] earlier = []
 records_after (made ∷ rest) earlier = record_of made earlier ++ records_after rest (earlier ++ made ∷ [])
-
--- the run over a list of calls from the empty basis: each call was answered so, and these are the records at the end
-pub record IsRun (equations : Equations) (calls : List CallBy) (records : List Record) : Type 0 where
-  pub answered : AreAnsweredFrom equations calls []
-  pub ends : records_after calls [] ≡ records
 
 -- each packet passes, and is fresh at the front and the packets before it
 abbrev pub AreInnovativeFrom : Equations → List Packet → List Packet → Type 0

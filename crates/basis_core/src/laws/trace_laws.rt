@@ -1,5 +1,5 @@
 //! What the merge of a trace is to legal histories, and what the machine makes of it.
-ghost use Rattle.std.specs.Prelude.{◌≡◌, ◌≢◌, List, map, None};
+ghost use Rattle.std.specs.Prelude.{◌≡◌, ◌≢◌, ℕ, List, map, None};
 ghost use Rattle.std.specs.List.{All};
 ghost use Rattle.linear_spec.specs.declared.equations.Equations.{Equations};
 ghost use Rattle.linear_spec.specs.declared.record.Record.{Record};
@@ -8,7 +8,9 @@ ghost use Rattle.basis_core.specs.declared.trace.CallerOffers.{CallerOffers};
 ghost use Rattle.basis_core.specs.Calls.{call_of};
 ghost use Rattle.basis_core.specs.Merge.{all_calls, given_by, merge_of};
 ghost use Rattle.basis_core.specs.Legal.{IsLegalHistory};
-ghost use Rattle.basis_core.specs.Machine.{IsReplay};
+ghost use Rattle.basis_core.specs.declared.trace.Answer.{Answer};
+ghost use Rattle.basis_core.specs.declared.trace.Event.{Event};
+ghost use Rattle.basis_core.specs.Machine.{FitsEvent, IsReplay};
 ghost use Rattle.basis_core.specs.Entries.{HasOffers, entries_of, entries_of_caller, merged_entries};
 ghost use Rattle.basis_core.specs.Traces.{AreRising, HasItsCheck, calls_of, kept_of, made_of};
 
@@ -16,7 +18,8 @@ ghost use Rattle.basis_core.specs.Traces.{AreRising, HasItsCheck, calls_of, kept
 /// check. The other two are of traces whose callers stand by number, strictly rising, and include each record's caller.
 /// `merged`: the entries that `merge` puts in order are the merge of the callers' calls, as legal histories have it.
 /// `replays`: where the calls are a legal history over the records, and each offer has the first check that it fails, the
-/// machine over the merged events gives just the answers that were kept, and the records.
+/// answers that were kept and the records are a replay of the merged events. `one_replay`: of events that fit there is just one,
+/// so these are what `replay` gives.
 pub fn traces()
     ensures complete { (caller : CallerTrace) (own : CallerOffers) → HasOffers caller own
         → map (λ entry. call_of (kept_of entry)) (entries_of_caller caller.number caller.calls.items own.packets.items own.failed.items)
@@ -31,4 +34,8 @@ pub fn traces()
         → All (λ entry. HasItsCheck equations entry.event) (entries_of callers offers)
         → IsReplay equations.k equations.s (map (λ entry. entry.event) (merged_entries (entries_of callers offers)))
         (map (λ entry. entry.answer) (merged_entries (entries_of callers offers))) records }
-{}
+    ensures one_replay { (k s : ℕ) (events : List Event) (answers others : List Answer) (records more : List Record) → All (FitsEvent k s) events
+        → IsReplay k s events answers records → IsReplay k s events others more → (others ≡ answers) × (more ≡ records) }
+{
+    linear_spec::laws::one_case();
+}

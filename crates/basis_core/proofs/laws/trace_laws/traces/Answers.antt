@@ -1,5 +1,6 @@
 use Rattle.basis_core.proofs.Merged.{entries_complete, trace_merged}
 use Rattle.basis_core.proofs.TraceReplays.{trace_replays}
+use Rattle.basis_core.proofs.OneReplay.{one_replay}
 use Rattle.basis_core.proofs.laws.trace_laws.traces.Goals as goal
 
 pub returns-clause-complete : goal.returns-clause-complete
@@ -11,3 +12,6 @@ returns-clause-merged c = trace_merged
 
 pub returns-clause-replays : goal.returns-clause-replays
 returns-clause-replays c = trace_replays
+
+pub returns-clause-one_replay : goal.returns-clause-one_replay
+returns-clause-one_replay c = one_replay c.one_case.ensures.within_follows
