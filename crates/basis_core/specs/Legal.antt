@@ -1,4 +1,5 @@
--- Legal histories: when the calls of callers and a list of records can be what one sequential basis answered and kept.
+-- Legal histories (docs/DEFINITIONS.md): when the calls of callers and a list of records can be what one sequential basis
+-- answered and kept.
 -- given: for each caller number, the calls of that caller, or nothing where they are not known. records: the records of the
 -- basis, or the first of them.
 use Rattle.std.specs.Prelude.{◌≡◌, ◌≢◌, ◌⊎◌, ℕ, ◌<◌, ◌≤◌, ◌^◌, ◌==◌, Bool, List, [], ◌∷◌, ◌++◌, length, map, take, Some}

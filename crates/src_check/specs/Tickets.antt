@@ -1,4 +1,4 @@
--- The sums of a file's ticket, and the equations of a ticket.
+-- The sums of a file's ticket (docs/FORMATS.md), and the equations of a ticket.
 -- d: the dimensions of the file's shape. g: a generation, from 0. key, check: see Weights. checks: the number of checks.
 use Rattle.std.specs.Prelude.{ℕ, ◌≡◌, List, map}
 use Rattle.std.specs.List.{flat_map, range_with_len}

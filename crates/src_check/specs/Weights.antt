@@ -1,4 +1,4 @@
--- The random weights of the checks, and the weighted sums of blocks.
+-- The random weights of the checks, from ChaCha20 words (RFC 8439), and the weighted sums of blocks (docs/FORMATS.md).
 -- key: the 32 bytes of a ticket's key. check: the number of a check, from 0, and of its stream of random words.
 -- place: that of a symbol in a block, from 0, and of its word in the stream. s: the symbols of a block.
 use Rattle.std.specs.Prelude.{ℕ, ◌*◌, ◌%◌, ◌^◌, List, map, take, drop}

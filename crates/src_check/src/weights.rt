@@ -8,8 +8,8 @@ use rand_core::SeedableRng;
 use rand_core::utils::NextWord;
 use std::alloc::Global;
 
-/// The weight of check `t` at the symbol with place `j` of a block: the low 16 bits of the ChaCha20 word of this key,
-/// stream `t`, place `j` (RFC 8439, with 64 bits for the counter and 64 for the stream). Takes no memory.
+/// The weight of check `t` at place `j` of a block: the low half of a ChaCha20 word, that at place `j` of stream `t` of this
+/// key (RFC 8439, with 64 bits for the counter and 64 for the stream). Takes no memory.
 #[tactic(auto, unfolding(crate::specs::Weights::weight_of))]
 pub fn weight(key: &[u8; 32], t: u8, j: u16) -> Gf
     requires { t < 8 }

@@ -15,11 +15,11 @@ ghost use Rattle.basis_core.specs.Entries.{HasOffers, entries_of, entries_of_cal
 ghost use Rattle.basis_core.specs.Traces.{AreRising, HasItsCheck, calls_of, kept_of, made_of};
 
 /// The entries of a trace. `complete`: those of a caller are its calls, all of them, where each offer has its packet and its
-/// check. The other two are of traces whose callers stand by number, strictly rising, and include each record's caller.
+/// check. `merged` and `replays` are of traces that list their callers by rising numbers, those of all records among them.
 /// `merged`: the entries that `merge` puts in order are the merge of the callers' calls, as legal histories have it.
-/// `replays`: where the calls are a legal history over the records, and each offer has the first check that it fails, the
-/// answers that were kept and the records are a replay of the merged events. `one_replay`: of events that fit there is just one,
-/// so these are what `replay` gives.
+/// `replays`: where the history is legal and each offer has the first check that it fails, the answers that were kept and the
+/// records are a replay of the merged events. `one_replay`: of events that fit there is just one, so these are what `replay`
+/// gives.
 pub fn traces()
     ensures complete { (caller : CallerTrace) (own : CallerOffers) → HasOffers caller own
         → map (λ entry. call_of (kept_of entry)) (entries_of_caller caller.number caller.calls.items own.packets.items own.failed.items)
