@@ -283,6 +283,50 @@ fn a_failing_write_is_a_write_fault(rt: HostRuntime) -> Result<(), Fail> {
     Ok(())
 }
 
+/// A sink that takes bytes while it has room, one a call, and then wants memory.
+#[derive(Drop)]
+struct Wanting {
+    room: usize,
+    wants: u64,
+}
+
+impl Sink for Wanting {
+    ghost contents = { λ _. None };
+
+    ghost faults = { λ _. 0 };
+
+    ghost wants = { λ s. s.wants };
+
+    fn write(&mut self, _piece: &[u8]) -> Result<usize, SinkRefusal> {
+        if self.room == 0 {
+            self.wants = self.wants.saturating_add(1);
+            return Err(SinkRefusal::Memory);
+        }
+        self.room -= 1;
+        Ok(1)
+    }
+}
+
+#[test]
+fn a_trace_is_kept_where_the_output_took_a_byte(rt: HostRuntime) -> Result<(), Fail> {
+    let alloc = rt.alloc();
+    for (room, bases) in [(0, 0), (1, 1)] {
+        let mut words = Words::new(alloc);
+        words.push("fetch")?;
+        let mut input = List::new(alloc);
+        input.extend_from_slice(&ABC_STREAM)?;
+        let mut input = SteadySource::new(input, 143);
+        let mut output = Wanting { room, wants: 0 };
+        let mut errors = SteadySink::new(alloc, 1);
+        let outcome = run(&rt, alloc, &words, &mut input, &mut output, &mut errors);
+        assert_eq!(rt; outcome.end, End::Memory);
+        assert_eq!(rt; outcome.end.status(), 8);
+        assert_eq!(rt; output.wants, 1);
+        assert_eq!(rt; outcome.trace.bases.len(), bases);
+    }
+    Ok(())
+}
+
 #[test]
 fn each_end_has_its_status(rt: HostRuntime) {
     let incomplete = End::Incomplete {
