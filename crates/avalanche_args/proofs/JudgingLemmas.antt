@@ -1,6 +1,7 @@
 -- The first wrong option of a list, found one option after another.
 -- matches: what `clap` found in the words.
-use Rattle.std.proofs.Common.{◌≡◌, ◌≤◌, ◌∙◌, ℕ, ap, refl, true, false, List, [], ◌∷◌, Option, Some, None, Result, Ok, Err, IsErrAnd}
+use Rattle.std.proofs.Common.{◌≡◌, ◌≤◌, ◌∙◌, ℕ, ap, refl, true, false, List, [], ◌∷◌, Option, Some, None, Result, Ok, Err}
+use Rattle.std.proofs.Common.{IsErrAnd}
 use Rattle.clap.specs.Walk.{Row, rows_of}
 use Rattle.clap.specs.Matches.{first_value, found_of}
 use Rattle.clap.specs.declared.parser.matches.ArgMatches.{ArgMatches}
@@ -15,7 +16,8 @@ use Rattle.avalanche_args.specs.declared.usage.WordClass.TheVariants.{BadNumber}
 
 module _ (option : NumberOption) (rest : List NumberOption) (matches : List Row) where
   -- an option that is right is passed over
-  pub passes : is_right option (text_given option matches) ≡ true → first_wrong (option ∷ rest) matches ≡ first_wrong rest matches
+  pub passes : is_right option (text_given option matches) ≡ true
+      → first_wrong (option ∷ rest) matches ≡ first_wrong rest matches
   unfolding first_wrong
   passes right = rw right refl
 
@@ -40,7 +42,8 @@ module _ (command : CommandName) (matches : List Row) where
   judged_right none = rw none refl
 
 -- the text that the matches have for an option
-pub text_found : (matches : ArgMatches) (option : NumberOption) (name : List ℕ) (text : Option (List ℕ)) → name ≡ text_of option.name
+pub text_found : (matches : ArgMatches) (option : NumberOption) (name : List ℕ) (text : Option (List ℕ))
+    → name ≡ text_of option.name
     → text ≡ first_value (found_of matches) name → text ≡ text_given option (rows_of (found_of matches))
 unfolding text_given
 text_found matches option name text named is =

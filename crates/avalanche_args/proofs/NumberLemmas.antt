@@ -1,5 +1,7 @@
 -- What std's `parse` answers, told in the words of the definitions.
-use Rattle.std.proofs.Common.{◌≡◌, ◌≢◌, ◌∙◌, ◌&&◌, ◌<◌, ◌≤◌, ◌^◌, ℕ, Bool, true, false, refl, sym, ap, ap₂, le_trans, lt_irrefl, lt_of_lt_of_le, leb-true, length, List, [], ◌∷◌, Some, None, Result, Ok, Err, inl, inr, lt-ltb, ltb-true}
+use Rattle.std.proofs.Common.{◌≡◌, ◌≢◌, ◌∙◌, ◌&&◌, ◌<◌, ◌≤◌, ◌^◌, ℕ, Bool, true, false, refl, sym, ap, ap₂, le_trans}
+use Rattle.std.proofs.Common.{lt_irrefl, lt_of_lt_of_le, leb-true, length, List, [], ◌∷◌, Some, None, Result, Ok, Err, inl}
+use Rattle.std.proofs.Common.{inr, lt-ltb, ltb-true}
 use Rattle.std.specs.Prelude.{get_or, slice_get}
 use Rattle.std.specs.Result.{OkIff, result_ok}
 use Rattle.std.specs.Str.{all_ascii_digits}
@@ -17,7 +19,8 @@ own : IsNumeralModel (λ text. all_ascii_digits text ≡ true) (digits_value 10)
 own = numerals_by_value _ tells_all_ascii_digits
 
 told : {E : Type 0} (text : List ℕ) (r : Result ℕ E)
-    → OkIff r ((all_ascii_digits text ≡ true) × (0 < length text) × (value_of text < 2 ^ 64)) (value_of text) → IsNumberIn text (result_ok r)
+    → OkIff r ((all_ascii_digits text ≡ true) × (0 < length text) × (value_of text < 2 ^ 64)) (value_of text)
+    → IsNumberIn text (result_ok r)
 told text (Ok n) h = (rw (lt-ltb 0 (length text) h.0.1) h.0.0, h.1)
 told text (Err e) h = λ number. elim (cases_lt (value_of text) (2 ^ 64)) [
   | inl below ↦
@@ -27,7 +30,8 @@ told text (Err e) h = λ number. elim (cases_lt (value_of text) (2 ^ 64)) [
 ]
 
 -- the number of a text that begins with no sign
-pub parsed_number : {E : Type 0} (text : List ℕ) (r : Result ℕ E) → get_or text 0 0 ≢ 43 → ParsesUnsigned 64 10 text r → IsNumberIn text (result_ok r)
+pub parsed_number : {E : Type 0} (text : List ℕ) (r : Result ℕ E) → get_or text 0 0 ≢ 43 → ParsesUnsigned 64 10 text r
+    → IsNumberIn text (result_ok r)
 parsed_number text r plain parsed = told text r (parse_plain own 64 text r parsed plain)
 
 first_byte : (text : List ℕ) (first : ℕ) → Some first ≡ slice_get text 0 → first ≢ 43 → get_or text 0 0 ≢ 43
@@ -37,7 +41,8 @@ first_byte (x ∷ xs) first is other =
     λ plus. other (begins ∙ plus)
 
 -- the same, where the bytes of the text were read first
-pub unsigned : (text bytes : List ℕ) (first : ℕ) → bytes ≡ text → Some first ≡ slice_get bytes 0 → first ≢ 43 → get_or text 0 0 ≢ 43
+pub unsigned : (text bytes : List ℕ) (first : ℕ) → bytes ≡ text → Some first ≡ slice_get bytes 0 → first ≢ 43
+    → get_or text 0 0 ≢ 43
 unsigned text bytes first same is = first_byte text first (is ∙ ap (λ (b : List ℕ). slice_get b 0) same)
 
 module _ (option : NumberOption) (text : List ℕ) where
@@ -50,7 +55,8 @@ module _ (option : NumberOption) (text : List ℕ) where
   right n is taken =
       (ap₂ (λ a b. a && b) is.0 (ap (takes option) (sym is.1) ∙ taken), is.1, at_most n taken)
 
-  pub not_taken : (n : ℕ) → IsNumberIn text (Some n) → takes option n ≡ false → IsJudged option (Some text) (Err (BadNumber option.name))
+  pub not_taken : (n : ℕ) → IsNumberIn text (Some n) → takes option n ≡ false
+      → IsJudged option (Some text) (Err (BadNumber option.name))
   unfolding is_right
   not_taken n is taken = (ap₂ (λ a b. a && b) is.0 (ap (takes option) (sym is.1) ∙ taken), refl)
 
@@ -59,7 +65,8 @@ module _ (option : NumberOption) (text : List ℕ) where
   unfolding is_right
   no_number fits is = (go (is_number text) (takes option (value_of text)) refl refl, refl)
     where
-      go : (a b : Bool) → is_number text ≡ a → takes option (value_of text) ≡ b → (is_number text && takes option (value_of text)) ≡ false
+      go : (a b : Bool) → is_number text ≡ a → takes option (value_of text) ≡ b
+          → (is_number text && takes option (value_of text)) ≡ false
       go false b number taken = rw number refl
       go true false number taken = rw (number, taken) refl
       go true true number taken =

@@ -2,7 +2,8 @@
 use Rattle.std.proofs.lemmas.Bool.{ne_eqb}
 use Rattle.std.proofs.lemmas.List.{take_all}
 use Rattle.std.proofs.lemmas.List.Sums.{fold_more}
-use Rattle.std.proofs.Common.{◌≡◌, ◌≢◌, ◌∙◌, ◌+◌, ◌<◌, ◌≤◌, ℕ, fold, get_or, length, take, suc-ne-zero, ap, sym, refl, true, not, List, [], ◌∷◌, Ok, Err, inl, inr}
+use Rattle.std.proofs.Common.{◌≡◌, ◌≢◌, ◌∙◌, ◌+◌, ◌<◌, ◌≤◌, ℕ, fold, get_or, length, take, suc-ne-zero, ap, sym, refl, true}
+use Rattle.std.proofs.Common.{not, List, [], ◌∷◌, Ok, Err, inl, inr}
 use Rattle.clap.specs.Walk.{Text, is_empty}
 use Rattle.clap.specs.Kinds.{HasKind, IsAmong, Kinds}
 use Rattle.clap.specs.Simple.{App, HasMatchesOf, is_simple, matches_of}
@@ -33,7 +34,8 @@ free name.Fetch = refl
 
 -- words without a fault are taken, and give what the parse found
 pub taken : (command : CommandName) (app : App) (words : List Text) (matches : ArgMatches) → app ≡ parser_of command
-    → (is_simple_and_free app ≡ true → fault_of app words ≡ []) → HasMatchesOf app words matches → Parses command words (Ok matches)
+    → (is_simple_and_free app ≡ true → fault_of app words ≡ []) → HasMatchesOf app words matches
+    → Parses command words (Ok matches)
 unfolding is_refused found_in
 taken command app words matches is faults found =
     let none : fault_of (parser_of command) words ≡ [] =
@@ -55,8 +57,10 @@ refused command app words error is faults other = elim (faults (ap is_simple_and
       sym (ap (λ (a : App). not (is_empty (fault_of a words))) is) ∙ some_kind (kind_of error) (fault_of app words) among
 ]
 
-pub cause : (command : CommandName) (app : App) (words : List Text) (error : Error) (told : ArgsError) → app ≡ parser_of command
-    → (is_simple_and_free app ≡ true → HasKind (fault_of app words) error) → IsCauseOf error told → Parses command words (Err told)
+pub cause : (command : CommandName) (app : App) (words : List Text) (error : Error) (told : ArgsError)
+    → app ≡ parser_of command
+    → (is_simple_and_free app ≡ true → HasKind (fault_of app words) error) → IsCauseOf error told
+    → Parses command words (Err told)
 cause command app words error (Usage class) is faults told = (refused command app words error is faults told.1, told.0)
 cause command app words error Memory is faults told = tt
 

@@ -20,14 +20,16 @@ unfolding command_of
 of_none [] none = refl
 of_none (word ∷ rest) none = cc
 
-pub of_unknown : (words : List Text) (first : Text) → slice_get words 0 ≡ Some first → command_named first ≡ None → command_of words ≡ Err UnknownCommand
+pub of_unknown : (words : List Text) (first : Text) → slice_get words 0 ≡ Some first → command_named first ≡ None
+    → command_of words ≡ Err UnknownCommand
 unfolding command_of
 of_unknown [] first is unknown = cc
 of_unknown (word ∷ rest) first is unknown =
     let named : command_named word ≡ None = ap (λ o. option_map_or command_named o None) is ∙ unknown in
     rw named refl
 
-pub of_command : (words : List Text) (first : Text) (command : CommandName) → slice_get words 0 ≡ Some first → command_named first ≡ Some command
+pub of_command : (words : List Text) (first : Text) (command : CommandName) → slice_get words 0 ≡ Some first
+    → command_named first ≡ Some command
     → command_of words ≡ read_as command words
 unfolding command_of
 of_command [] first command is known = cc
@@ -35,7 +37,8 @@ of_command (word ∷ rest) first command is known =
     let named : command_named word ≡ Some command = ap (λ o. option_map_or command_named o None) is ∙ known in
     rw named refl
 
-pub of_refused : (command : CommandName) (words : List Text) → is_refused command words ≡ true → read_as command words ≡ Err BadWords
+pub of_refused : (command : CommandName) (words : List Text) → is_refused command words ≡ true
+    → read_as command words ≡ Err BadWords
 unfolding read_as
 of_refused command words refused = rw refused refl
 
@@ -47,7 +50,8 @@ of_taken command words taken = rw taken refl
 -- what the steps answer is the command of the words, or its class
 module _ (words texts : List Text) (first : Text) (command : CommandName) (same : texts ≡ words) (is : slice_get words 0 ≡ Some first)
     (known : command_named first ≡ Some command) where
-  pub refused_words : (error : ArgsError) → Parses command texts (Err error) → IfUsage (Err error) (λ class. command_of words ≡ Err class)
+  pub refused_words : (error : ArgsError) → Parses command texts (Err error)
+      → IfUsage (Err error) (λ class. command_of words ≡ Err class)
   refused_words (Usage class) answer =
       of_command words first command is known ∙ ap (read_as command) (sym same) ∙ of_refused command texts answer.0 ∙ ap Err (sym answer.1)
   refused_words Memory answer = tt

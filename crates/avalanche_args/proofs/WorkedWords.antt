@@ -2,7 +2,8 @@
 use Rattle.std.proofs.Common.{◌≡◌, refl, true, [], ◌∷◌, Ok, Err}
 use Rattle.std.specs.Prelude.{codes}
 use Rattle.clap.proofs.OnLiterals.{clap_on_literals}
-use Rattle.avalanche_args.specs.CommandOf.{command_of, first_wrong, found_in, is_refused, judged_as, parser_of, read_as, text_given}
+use Rattle.avalanche_args.specs.CommandOf.{command_of, first_wrong, found_in, is_refused, judged_as, parser_of, read_as}
+use Rattle.avalanche_args.specs.CommandOf.{text_given}
 use Rattle.avalanche_args.specs.Numbers.{is_right, number_of}
 use Rattle.avalanche_args.specs.Options.{takes}
 use Rattle.avalanche_args.specs.declared.command.Command.TheVariants.{Seed, Fetch}
@@ -26,18 +27,22 @@ unfolding command_of read_as is_refused parser_of clap_on_literals
 twice = refl
 
 leading_zero : command_of (codes "fetch" ∷ codes "--receivers" ∷ codes "02" ∷ []) ≡ Ok (Fetch (record { receivers = 2 }))
-unfolding command_of read_as is_refused found_in parser_of judged_as first_wrong text_given is_right number_of takes clap_on_literals
+unfolding command_of read_as is_refused found_in parser_of judged_as first_wrong text_given is_right number_of
+    takes clap_on_literals
 leading_zero = refl
 
 no_value : command_of (codes "fetch" ∷ codes "--receivers=" ∷ []) ≡ Err (BadNumber Receivers)
-unfolding command_of read_as is_refused found_in parser_of judged_as first_wrong text_given is_right number_of takes clap_on_literals
+unfolding command_of read_as is_refused found_in parser_of judged_as first_wrong text_given is_right number_of
+    takes clap_on_literals
 no_value = refl
 
 first_of_two : command_of (codes "seed" ∷ codes "--bare" ∷ codes "2" ∷ codes "--block" ∷ codes "3" ∷ []) ≡ Err (BadNumber Block)
-unfolding command_of read_as is_refused found_in parser_of judged_as first_wrong text_given is_right number_of takes clap_on_literals
+unfolding command_of read_as is_refused found_in parser_of judged_as first_wrong text_given is_right number_of
+    takes clap_on_literals
 first_of_two = refl
 
 defaults : command_of (codes "seed" ∷ codes "--bare=1" ∷ [])
     ≡ Ok (Seed (record { k = 64; block = 1024; checks = 2; key = 1; peer = 1; coded = 0; bare = true }))
-unfolding command_of read_as is_refused found_in parser_of judged_as first_wrong text_given is_right number_of takes clap_on_literals
+unfolding command_of read_as is_refused found_in parser_of judged_as first_wrong text_given is_right number_of
+    takes clap_on_literals
 defaults = refl

@@ -1,12 +1,14 @@
 -- The command of the words, or the class of the first word or value that is wrong (docs/FORMATS.md).
 -- words: those after the program's name. matches: what `clap` finds in them, where it takes them.
-use Rattle.std.specs.Prelude.{ℕ, ◌==◌, Bool, true, not, List, [], ◌∷◌, Option, Some, Result, Ok, Err, find, fold, if◌then◌else◌}
+use Rattle.std.specs.Prelude.{ℕ, ◌==◌, Bool, true, not, List, [], ◌∷◌, Option, Some, Result, Ok, Err, find, fold}
+use Rattle.std.specs.Prelude.{if◌then◌else◌}
 use Rattle.std.specs.Option.{option_map_or}
 use Rattle.clap.specs.Walk.{Row, Rule, Text, first_of, is_empty}
 use Rattle.clap.specs.Simple.{App, matches_of, new_app, new_rule, on_top, with_rule}
 use Rattle.clap.specs.Faults.{fault_of}
 use Rattle.avalanche_args.specs.Numbers.{is_right, number_of}
-use Rattle.avalanche_args.specs.Options.{bare, block, blocks, checks, command_named, key, options_of, peer, receivers, text_of, word_of}
+use Rattle.avalanche_args.specs.Options.{bare, block, blocks, checks, command_named, key, options_of, peer, receivers}
+use Rattle.avalanche_args.specs.Options.{text_of, word_of}
 use Rattle.avalanche_args.specs.declared.command.Command.{Command}
 use Rattle.avalanche_args.specs.declared.command.Command.TheVariants.{Seed, Fetch}
 use Rattle.avalanche_args.specs.declared.command.CommandName.{CommandName}

@@ -5,8 +5,10 @@ use Rattle.avalanche_args.specs.declared.command.CommandName.{CommandName}
 use Rattle.avalanche_args.specs.declared.command.CommandName.TheVariants as name
 use Rattle.avalanche_args.specs.declared.option.NumberOption.{NumberOption}
 use Rattle.avalanche_args.specs.declared.option.OptionName.{OptionName}
-use Rattle.avalanche_args.specs.declared.option.OptionName.TheVariants.{Blocks, Block, Checks, Key, Peer, Coded, Bare, LinkNumber, Receivers}
-use Rattle.avalanche_args.specs.declared.option.OptionName.TheVariants.{Senders, Peers, OverlayName, Degree, Rounds, Polluter, Bytes, Through}
+use Rattle.avalanche_args.specs.declared.option.OptionName.TheVariants.{Blocks, Block, Checks, Key, Peer, Coded, Bare}
+use Rattle.avalanche_args.specs.declared.option.OptionName.TheVariants.{LinkNumber, Receivers}
+use Rattle.avalanche_args.specs.declared.option.OptionName.TheVariants.{Senders, Peers, OverlayName, Degree, Rounds}
+use Rattle.avalanche_args.specs.declared.option.OptionName.TheVariants.{Polluter, Bytes, Through}
 
 -- how an option is written, without its two hyphens
 abbrev pub text_of : OptionName → List ℕ

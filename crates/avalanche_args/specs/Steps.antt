@@ -22,7 +22,8 @@ IsCauseOf error Memory = kind_of error ≡ OutOfMemory
 
 -- the answer to words whose first is the command's name
 abbrev pub Parses : CommandName → List Text → Result ArgMatches ArgsError → Type 0
-Parses command words (Ok matches) = (is_refused command words ≡ false) × (rows_of (found_of matches) ≡ found_in command words)
+Parses command words (Ok matches) =
+    (is_refused command words ≡ false) × (rows_of (found_of matches) ≡ found_in command words)
 Parses command words (Err (Usage class)) = (is_refused command words ≡ true) × (class ≡ BadWords)
 Parses command words (Err Memory) = Unit {0}
 
