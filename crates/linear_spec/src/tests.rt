@@ -49,6 +49,10 @@ fn words_are_texts(rt: HostRuntime) -> Result<(), Fail> {
     assert_eq!(rt; words.len(), 2);
     assert_eq!(rt; words.get(0).ok_or("a word")?, "fetch");
     assert!(rt; words.get(2).is_none());
+    assert_eq!(rt;
+        words.texts()?.as_slice(),
+        ["fetch", "--receivers=2"].as_slice()
+    );
     Ok(())
 }
 

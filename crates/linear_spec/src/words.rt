@@ -1,4 +1,4 @@
-ghost use Rattle.std.specs.Prelude.{◌≡◌, ◌<◌, ◌↔◌, [], ◌∷◌, ◌++◌, length, IsSome, OnOk, OnErr, slice_get};
+ghost use Rattle.std.specs.Prelude.{◌≡◌, ◌<◌, ◌↔◌, [], ◌∷◌, ◌++◌, length, map, IfOk, IsSome, OnOk, OnErr, slice_get};
 ghost use Rattle.std.specs.Option.{option_copied};
 
 use gf16::Memory;
@@ -53,5 +53,16 @@ impl Words {
         ensures variant { IsSome result ↔ (at < length self.now) }
     {
         self.words.get(at).map(|word| word.as_str())
+    }
+
+    /// The words as texts.
+    pub fn texts(&self) -> Result<Vec<&str>, Memory>
+        ensures { IfOk result (λ texts. map (λ text. text.now) texts.items ≡ self.now) }
+    {
+        let mut texts = Vec::new(*self.words.allocator());
+        for word in &self.words {
+            texts.push(word.as_str())?;
+        }
+        Ok(texts)
     }
 }

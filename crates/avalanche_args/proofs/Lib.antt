@@ -1,0 +1,5 @@
+pub mod JudgingLemmas
+pub mod NumberLemmas
+pub mod ParsingLemmas
+pub mod ReadingLemmas
+mod WorkedWords

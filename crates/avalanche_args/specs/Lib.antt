@@ -1,0 +1,4 @@
+pub mod CommandOf
+pub mod Numbers
+pub mod Options
+pub mod Steps
