@@ -2,3 +2,4 @@ pub mod Bodies
 pub mod Frames
 pub mod OneReading
 pub mod Packets
+pub mod Written

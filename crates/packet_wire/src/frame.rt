@@ -12,7 +12,7 @@ pub(crate) enum Kind {
 
 /// The ten bytes before a body of `len` bytes.
 #[tactic(auto, unfolding(crate::specs::Frame::head))]
-fn head_of(kind: Kind, len: u32) -> [u8; 10]
+pub(crate) fn head_of(kind: Kind, len: u32) -> [u8; 10]
     ensures { result ≡ head (number_of kind) len }
 {
     let [a, b, c, d] = len.to_be_bytes();

@@ -1,5 +1,9 @@
+ghost use Rattle.std.specs.Prelude.{◌≡◌, length, IfOk};
+
 use super::*;
-use linear_spec::Packet;
+use generation::Shape;
+use gf16::Memory;
+use linear_spec::{List, Packet, SymVec};
 use std::alloc::{AllocError, Global};
 use std::test::Fail;
 
@@ -84,5 +88,121 @@ fn refuses_what_is_no_first_stream(rt: HostRuntime) -> Result<(), Fail> {
     let mut longer = bytes;
     longer.push(0)?;
     assert!(rt; matches!(read_stream(alloc, &longer), Err(StreamError::Refused)));
+    Ok(())
+}
+
+fn packet(alloc: Global, coeffs: &[u16], payload: &[u16]) -> Result<Packet, Memory>
+    ensures coeffs { IfOk result (λ packet. packet.coeffs ≡ coeffs.now) }
+    ensures payload { IfOk result (λ packet. packet.payload ≡ payload.now) }
+{
+    let coeffs = SymVec::from_slice(alloc, coeffs)?;
+    let payload = SymVec::from_slice(alloc, payload)?;
+    Ok(Packet {
+        generation: 0,
+        coeffs,
+        payload,
+    })
+}
+
+// The 32 bytes from a place on, which are there.
+fn bytes_at(bytes: &[u8], at: usize) -> [u8; 32] {
+    let mut array = [0; 32];
+    for (to, from) in array.iter_mut().zip(bytes.iter().skip(at)) {
+        *to = *from;
+    }
+    array
+}
+
+fn abc_manifest() -> Option<Manifest> {
+    let shape = Shape::new(3, 2, 2).ok()?;
+    let digest = bytes_at(&MANIFEST, 22);
+    Some(Manifest { shape, digest })
+}
+
+#[test]
+fn writes_abc_frame_by_frame(rt: HostRuntime) -> Result<(), Fail> {
+    let alloc = rt.alloc();
+    let manifest = abc_manifest().ok_or("a manifest")?;
+    let key = bytes_at(&TICKET, 10);
+    let sums = SymVec::zeros(alloc, 0)?;
+    let ticket = Ticket {
+        key,
+        checks: 0,
+        sums,
+    };
+    let mut out = List::new(alloc);
+    write_manifest(&manifest, &mut out)?;
+    assert_eq!(rt; out.as_slice(), MANIFEST.as_slice());
+    write_ticket(&ticket, &mut out)?;
+    assert_eq!(rt; out.len(), 97);
+    write_packet(&packet(alloc, &[1, 0], &[0x6162])?, &mut out)?;
+    assert_eq!(rt; out.len(), 115);
+    write_packet(&packet(alloc, &[0, 1], &[0x6300])?, &mut out)?;
+    assert_eq!(rt; out.len(), 133);
+    write_end(&mut out)?;
+    assert_eq!(rt; out.as_slice(), abc_stream(alloc)?.as_slice());
+    Ok(())
+}
+
+// Eight checks of one generation of one block: eight sums, so a body of 49 bytes.
+#[test]
+fn writes_a_ticket_of_eight_checks(rt: HostRuntime) -> Result<(), Fail> {
+    let alloc = rt.alloc();
+    let key = [0x5A; 32];
+    let sums = SymVec::from_slice(
+        alloc,
+        &[
+            0x0001, 0x0203, 0x0405, 0x0607, 0x0809, 0x0A0B, 0x0C0D, 0xFFFE,
+        ],
+    )?;
+    let ticket = Ticket {
+        key,
+        checks: 8,
+        sums,
+    };
+    let mut out = List::new(alloc);
+    write_ticket(&ticket, &mut out)?;
+    let (head, body) = out.as_slice().split_at(out.len().min(10));
+    assert_eq!(rt; head, b"AVLN\x01\x02\x00\x00\x00\x31".as_slice());
+    let (written, body) = body.split_at(body.len().min(32));
+    assert_eq!(rt; written, key.as_slice());
+    let expected = [
+        8, 0, 1, 2, 3, 4, 5, 6, 7, 8, 9, 0x0A, 0x0B, 0x0C, 0x0D, 0xFF, 0xFE,
+    ];
+    assert_eq!(rt; body, expected.as_slice());
+    Ok(())
+}
+
+// K is 64 and B is 4096, so a packet's frame has 4236 bytes.
+#[test]
+fn reads_the_largest_packet_as_it_was_written(rt: HostRuntime) -> Result<(), Fail> {
+    let alloc = rt.alloc();
+    let shape = Shape::new(262_144, 64, 4096).ok().ok_or("a shape")?;
+    let digest = [0xD1; 32];
+    let key = [0x5A; 32];
+    let sums = SymVec::zeros(alloc, 0)?;
+    let ticket = Ticket {
+        key,
+        checks: 0,
+        sums,
+    };
+    let mut coeffs = [0x0102; 64];
+    coeffs[63] = 0x8001;
+    let mut payload = [0xFFFE; 2048];
+    payload[2047] = 7;
+    let mut out = List::new(alloc);
+    write_manifest(&Manifest { shape, digest }, &mut out)?;
+    write_ticket(&ticket, &mut out)?;
+    write_packet(&packet(alloc, &coeffs, &payload)?, &mut out)?;
+    assert_eq!(rt; out.len(), 54 + 43 + 4236);
+    write_end(&mut out)?;
+    let stream = read_stream(alloc, out.as_slice())
+        .ok()
+        .ok_or("the bytes are a stream")?;
+    assert_eq!(rt; stream.manifest, Manifest { shape, digest });
+    assert_eq!(rt; stream.ticket.key, key);
+    assert_eq!(rt; stream.packets.len(), 1);
+    let read = stream.packets.get(0).ok_or("a packet")?;
+    assert!(rt; is_packet(read, &coeffs, &payload));
     Ok(())
 }

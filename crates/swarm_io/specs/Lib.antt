@@ -1,4 +1,5 @@
 pub mod Counts
+pub mod Mem
 pub mod Moved
 pub mod SinkRefusal
 pub mod SteadySink

@@ -1,6 +1,7 @@
 //! Sources and sinks of bytes, whose faults and wants of memory are counted.
 #![tactic(auto)]
 
+mod mem;
 mod reading;
 mod sink;
 mod source;
@@ -8,6 +9,7 @@ mod standard;
 mod steady;
 mod writing;
 
+pub use mem::{MemSink, MemSource};
 pub use reading::{ReadAllError, read_all};
 pub use sink::{Sink, SinkRefusal};
 pub use source::{Failed, Source};
