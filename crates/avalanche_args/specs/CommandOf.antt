@@ -1,4 +1,4 @@
--- The command of the words, or the class of the first word or value that is wrong (docs/FORMATS.md).
+-- What the words say (docs/FORMATS.md): a command with its values, or else of which class the first fault is.
 -- words: those after the program's name. matches: what `clap` finds in them, where it takes them.
 use Rattle.std.specs.Prelude.{ℕ, ◌==◌, Bool, true, not, List, [], ◌∷◌, Option, Some, Result, Ok, Err, find, fold}
 use Rattle.std.specs.Prelude.{if◌then◌else◌}
@@ -21,7 +21,7 @@ use Rattle.avalanche_args.specs.declared.usage.WordClass.TheVariants.{NoCommand,
 
 -- ---- the words as `clap` reads them
 
--- an option of a command: a long option that takes one value as text
+-- an option of a command, as `clap` has it: long, with one text for its value
 abbrev pub option_rule : NumberOption → Rule
 option_rule option = record (new_rule (text_of option.name)) { long = Some (text_of option.name) }
 

@@ -5,7 +5,7 @@ use Rattle.std.specs.Str.Parse.{digits_value}
 use Rattle.avalanche_args.specs.declared.option.NumberOption.{NumberOption}
 use Rattle.avalanche_args.specs.Options.{takes}
 
--- the text is one or more ASCII digits; leading zeros are allowed
+-- the text is of ASCII digits, at least one; the first may be zeros
 abbrev pub is_number : List ℕ → Bool
 is_number text = nat_lt 0 (length text) && all_ascii_digits text
 

@@ -9,8 +9,8 @@ use linear_spec::Words;
 
 /// The command of the words after the program's name, with its options.
 ///
-/// An option is written `--name value` or `--name=value`, in any order and at most once. A number is one or more ASCII
-/// digits. Each list of words has one command or one class of error, which is the answer unless memory is wanted.
+/// An option is written `--name value` or `--name=value`, in any order and at most once. A number is written in ASCII digits
+/// alone. Each list of words has one command or one class of error, which is the answer unless memory is wanted.
 pub fn read_words(words: &Words) -> Result<Command, ArgsError>
     ensures ok { IfOk result (λ command. command_of words.now ≡ Ok command) }
     ensures usage { IfUsage result (λ class. command_of words.now ≡ Err class) }

@@ -14,7 +14,7 @@ use Rattle.src_check.specs.Weights.{weighted_sum_of, weights_of_checks}
 unfoldable pub generation_blocks_of : Dimensions → List ℕ → ℕ → List (List ℕ)
 generation_blocks_of d file g = map (block_of d file g) (range_with_len 0 d.k)
 
--- the packet's payload is the combination of the blocks of its generation with its coefficients
+-- the packet is true to the file's blocks of its generation
 abbrev pub IsTrueToFile : Dimensions → List ℕ → Packet → Type 0
 IsTrueToFile d file packet = IsTrueTo (symbols_per_block d) (generation_blocks_of d file packet.generation) packet
 

@@ -6,7 +6,7 @@ use Rattle.std.specs.List.{flat_map, range_with_len}
 use Rattle.rand_chacha.specs.ChaCha.{word_at, key_of}
 use Rattle.gf16.specs.Sums.{dot_of}
 
--- the weight of a check at a place: the low 16 bits of the ChaCha20 word there, which takes ten double rounds
+-- the weight of a check at a place: the low half of the ChaCha20 word there, which takes ten double rounds
 unfoldable pub weight_of : List ℕ → ℕ → ℕ → ℕ
 weight_of key check place = word_at 10 (key_of key) check place % 2 ^ 16
 
