@@ -1,0 +1,24 @@
+use Rattle.table_rows.proofs.WorkedRecords.{Laws, second_alone, second_after}
+use Rattle.table_rows.proofs.tests.put_second.Goals as goal
+
+pub put_in-requires-clause-first : goal.put_in-requires-clause-first
+put_in-requires-clause-first c =
+    let laws : Laws = record {
+      field = c.field.ensures;
+      none = c.rows.ensures.none;
+      fresh = c.decision.ensures.fresh;
+      stands = c.decision.ensures.stands;
+      joins = c.decision.ensures.joins;
+    } in
+    second_alone laws c.args.table.now.parameters c.requires.seat.1
+
+pub put_in-requires-clause-second : goal.put_in-requires-clause-second
+put_in-requires-clause-second c =
+    let laws : Laws = record {
+      field = c.field.ensures;
+      none = c.rows.ensures.none;
+      fresh = c.decision.ensures.fresh;
+      stands = c.decision.ensures.stands;
+      joins = c.decision.ensures.joins;
+    } in
+    second_after laws c.args.table.now.parameters c.requires.seat.1
