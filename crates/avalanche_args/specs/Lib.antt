@@ -1,4 +1,5 @@
 pub mod CommandOf
 pub mod Numbers
 pub mod Options
+pub mod Ranges
 pub mod Steps

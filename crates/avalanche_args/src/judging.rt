@@ -1,6 +1,7 @@
-ghost use Rattle.std.specs.Prelude.{◌≡◌, ◌<◌, ◌≤◌, ◌^◌};
+ghost use Rattle.std.specs.Prelude.{◌≡◌, ◌<◌, ◌≤◌, ◌^◌, IfOk};
 ghost use Rattle.clap.specs.Words.{found_of, rows_of};
 ghost use Rattle.avalanche_args.specs.CommandOf.{judged_as, text_given};
+ghost use Rattle.avalanche_args.specs.Ranges.{IsInRange, IsWithin};
 ghost use Rattle.avalanche_args.specs.Steps.{IsJudged, IsNumberIn};
 ghost use Rattle.avalanche_args.specs.declared.command.CommandName.TheVariants as name;
 
@@ -11,7 +12,8 @@ use clap::ArgMatches;
 
 /// The command with the values of its options, or the class of the first value that is wrong.
 pub(crate) fn judged(command: CommandName, matches: &ArgMatches<'_>) -> Result<Command, WordClass>
-    ensures { result ≡ judged_as command (rows_of (found_of matches.now)) }
+    ensures value { result ≡ judged_as command (rows_of (found_of matches.now)) }
+    ensures in_range { IfOk result IsInRange }
 {
     match command {
         CommandName::Seed => seed(matches),
@@ -20,7 +22,8 @@ pub(crate) fn judged(command: CommandName, matches: &ArgMatches<'_>) -> Result<C
 }
 
 fn seed(matches: &ArgMatches<'_>) -> Result<Command, WordClass>
-    ensures { result ≡ judged_as name.Seed (rows_of (found_of matches.now)) }
+    ensures value { result ≡ judged_as name.Seed (rows_of (found_of matches.now)) }
+    ensures in_range { IfOk result IsInRange }
 {
     let k = number(matches, BLOCKS)?;
     let block = number(matches, BLOCK)?;
@@ -40,7 +43,8 @@ fn seed(matches: &ArgMatches<'_>) -> Result<Command, WordClass>
 }
 
 fn fetch(matches: &ArgMatches<'_>) -> Result<Command, WordClass>
-    ensures { result ≡ judged_as name.Fetch (rows_of (found_of matches.now)) }
+    ensures value { result ≡ judged_as name.Fetch (rows_of (found_of matches.now)) }
+    ensures in_range { IfOk result IsInRange }
 {
     let receivers = number(matches, RECEIVERS)?;
     Ok(Command::Fetch(FetchWords {
@@ -50,9 +54,10 @@ fn fetch(matches: &ArgMatches<'_>) -> Result<Command, WordClass>
 
 /// The number that is given for an option, or else its default.
 fn number(matches: &ArgMatches<'_>, option: NumberOption) -> Result<u64, WordClass>
-    requires default { option.default ≤ option.most }
+    requires default { IsWithin option option.default }
     requires fits { option.most < 2 ^ 64 }
-    ensures { IsJudged option (text_given option (rows_of (found_of matches.now))) result }
+    ensures judged { IsJudged option (text_given option (rows_of (found_of matches.now))) result }
+    ensures within { IfOk result (IsWithin option) }
 {
     match matches.get_str(option.name.text()) {
         Some(text) => number_of_text(option, text),
@@ -62,7 +67,8 @@ fn number(matches: &ArgMatches<'_>, option: NumberOption) -> Result<u64, WordCla
 
 fn number_of_text(option: NumberOption, text: &str) -> Result<u64, WordClass>
     requires { option.most < 2 ^ 64 }
-    ensures { IsJudged option (Some text.now) result }
+    ensures judged { IsJudged option (Some text.now) result }
+    ensures within { IfOk result (IsWithin option) }
 {
     match number_in(text) {
         Some(number) if option.takes(number) => Ok(number),

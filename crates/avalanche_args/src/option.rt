@@ -1,5 +1,6 @@
-ghost use Rattle.std.specs.Prelude.{◌≡◌};
+ghost use Rattle.std.specs.Prelude.{◌≡◌, IsTrue};
 ghost use Rattle.avalanche_args.specs.Options.{takes, text_of};
+ghost use Rattle.avalanche_args.specs.Ranges.{IsWithin};
 
 /// An option of some command.
 #[derive(Clone, Copy, Debug, PartialEq, Eq)]
@@ -83,7 +84,8 @@ impl NumberOption {
     /// Whether the number is one that the option takes.
     #[tactic(auto, unfolding(crate::specs::Options::takes))]
     pub(crate) fn takes(self, number: u64) -> bool
-        ensures { result ≡ takes self number }
+        ensures value { result ≡ takes self number }
+        ensures within { IsTrue result → IsWithin self number }
     {
         self.least <= number && number <= self.most && (!self.even || number % 2 == 0)
     }

@@ -1,5 +1,6 @@
 ghost use Rattle.std.specs.Prelude.{◌≡◌, IfOk};
 ghost use Rattle.avalanche_args.specs.CommandOf.{IfUsage, command_of};
+ghost use Rattle.avalanche_args.specs.Ranges.{IsInRange};
 
 use crate::command::{Command, CommandName};
 use crate::judging::judged;
@@ -13,6 +14,7 @@ use linear_spec::Words;
 /// alone. Each list of words has one command or one class of error, which is the answer unless memory is wanted.
 pub fn read_words(words: &Words) -> Result<Command, ArgsError>
     ensures ok { IfOk result (λ command. command_of words.now ≡ Ok command) }
+    ensures in_range { IfOk result IsInRange }
     ensures usage { IfUsage result (λ class. command_of words.now ≡ Err class) }
 {
     let Some(first) = words.get(0) else {

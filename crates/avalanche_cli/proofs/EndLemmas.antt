@@ -1,122 +1,158 @@
--- How the steps of a fetch make its end, and which ends are left where the packets have full rank.
-use Rattle.std.proofs.Common.{◌≡◌, ℕ, ◌<◌, Bool, true, false, List, [], ◌∷◌, length, refl, subst, sym, ◌⊎◌, inl, inr, arith}
-use Rattle.std.specs.Prelude.{Option, None, Some, Result, Ok, Err, IfSome, IfOk, IfErr, slice_get}
+-- What an input tells of the end of a fetch: for each input that tells its bytes one end is left, unless a fault came or
+-- memory was wanted.
+use Rattle.std.proofs.Common.{◌≡◌, ℕ, ◌<◌, ◌≤◌, List, length, take, refl, subst, sym, ap, ◌∙◌, ◌⊎◌, inl, inr, arith}
+use Rattle.std.specs.Prelude.{Option, Some}
+use Rattle.std.specs.Io.KnownBytes.{Appends}
+use Rattle.std.proofs.lemmas.List.{take_all}
 use Rattle.sha2.specs.Sha256.{sha256}
-use Rattle.linear_spec.specs.List.{ListValue}
-use Rattle.linear_spec.specs.Packet.{coefficients_of}
-use Rattle.linear_spec.specs.Span.{HasRank}
-use Rattle.packet_wire.specs.Stream.{Contents}
+use Rattle.packet_wire.specs.Stream.{Contents, IsStream}
+use Rattle.packet_wire.specs.Faults.{IsFirstFault}
+use Rattle.packet_wire.specs.declared.fault.WireFault.{WireFault}
+use Rattle.avalanche_cli.specs.Fetch.{HasFile, Holds, IsFetchable, IsTooLong, IsUnfetchable, stream_limit}
+use Rattle.avalanche_cli.specs.FetchSteps.{IsEnd}
+use Rattle.avalanche_cli.specs.Files.{IsFirstIncomplete, IsOnlyFileOf, recorded_packets, source_file}
+use Rattle.avalanche_cli.specs.Packets.{AreTrueTo, HasFullRank}
 use Rattle.avalanche_cli.specs.Trace.{IsLegalFetch}
-use Rattle.avalanche_cli.specs.Fetch.{HasFile, HasPacketRank, Holds, IsFetchable, IsKept, IsTraceOf, LacksRank, receivers}
-use Rattle.avalanche_cli.specs.FetchSteps.{IsEnd, IsKeptUnless, IsReceptionOf, IsWritten}
-use Rattle.avalanche_cli.specs.Reception.{IsJudged, IsOnlyFileOf}
 use Rattle.avalanche_cli.specs.declared.trace.Trace.{Trace}
 use Rattle.avalanche_cli.specs.declared.end.End.{End}
-use Rattle.avalanche_cli.specs.declared.end.End.TheVariants.{Done, ReadFault, WriteFault, Incomplete, Mismatch, Memory, NotBuilt}
+use Rattle.avalanche_cli.specs.declared.end.End.TheVariants.{Done, Usage, ReadFault, WriteFault, TooLarge, BadStream, Incomplete, Mismatch, Memory}
 
--- ---- full rank
+-- ---- the laws that this rests on
+
+-- the first generation that lacks rank is one, with one rank
+abbrev pub IncompleteLaw : Type 0
+IncompleteLaw = (contents : Contents) (generation rank other its : ℕ) → IsFirstIncomplete contents generation rank → IsFirstIncomplete contents other its → (other ≡ generation) × (its ≡ rank)
+
+-- and where all have full rank there is none
+abbrev pub NotFullLaw : Type 0
+NotFullLaw = (contents : Contents) (generation rank : ℕ) → IsFirstIncomplete contents generation rank → ¬ HasFullRank contents
+
+-- a stream has no fault
+abbrev pub SoundLaw : Type 0
+SoundLaw = (bytes : List ℕ) (contents : Contents) (fault : WireFault) → IsStream bytes contents → IsFirstFault bytes fault → ⊥
+
+-- bytes have one first fault
+abbrev pub FaultLaw : Type 0
+FaultLaw = (bytes : List ℕ) (fault other : WireFault) → IsFirstFault bytes fault → IsFirstFault bytes other → fault ≡ other
+
+-- ---- what an input has just one of
 
 pub same_contents : (bytes : List ℕ) (contents other : Contents) → Holds (Some bytes) contents → IsFetchable bytes other → other ≡ contents
 same_contents bytes contents other holds fetchable = holds.only other (subst (λ (b : List ℕ). IsFetchable b other) holds.told fetchable)
 
--- an input of full rank has no lower rank
-pub no_low_rank : (bytes : List ℕ) (contents : Contents) (rank : ℕ) → ((n : ℕ) (vectors : List (List ℕ)) (r q : ℕ) → HasRank n vectors r → HasRank n vectors q → r ≡ q) → LacksRank (Some bytes) rank → IsFetchable bytes contents → HasPacketRank contents contents.manifest.shape.k → ⊥
-no_low_rank bytes contents rank one lacks fetchable full =
-    let same = same_contents bytes lacks.contents contents lacks.holds fetchable in
-    let rank_is = subst (λ (c : Contents). HasPacketRank c rank) (sym same) lacks.rank_is in
-    let below : rank < contents.manifest.shape.k = subst (λ (c : Contents). rank < c.manifest.shape.k) (sym same) lacks.below in
-    let equal : rank ≡ contents.manifest.shape.k = one contents.manifest.shape.k (coefficients_of contents.packets) rank contents.manifest.shape.k rank_is full in
-    absurd (omega arith)
+fetchable_of : (bytes : List ℕ) (contents : Contents) → Holds (Some bytes) contents → IsFetchable bytes contents
+fetchable_of bytes contents holds = subst (λ (b : List ℕ). IsFetchable b contents) (sym holds.told) holds.fetchable
 
-pub full_rank : (input before now : Option (List ℕ)) (trace : Trace) (Same Unread Unwritten Unheld : Type 0) (end : End) → ((n : ℕ) (vectors : List (List ℕ)) (r q : ℕ) → HasRank n vectors r → HasRank n vectors q → r ≡ q) → IsEnd input trace before now Same Unread Unwritten Unheld end → IfSome input (λ bytes. (contents : Contents) → IsFetchable bytes contents → HasPacketRank contents contents.manifest.shape.k → ¬ Unread → ¬ Unwritten → (end ≡ Done) ⊎ (((found : List ℕ) × (end ≡ Mismatch found)) ⊎ (end ≡ Memory)))
-full_rank None before now trace Same Unread Unwritten Unheld end one is = tt
-full_rank (Some bytes) before now trace Same Unread Unwritten Unheld Done one is = λ contents fetchable full read written. inl refl
-full_rank (Some bytes) before now trace Same Unread Unwritten Unheld ReadFault one is = λ contents fetchable full read written. absurd (read is.1)
-full_rank (Some bytes) before now trace Same Unread Unwritten Unheld WriteFault one is = λ contents fetchable full read written. absurd (written is.1)
-full_rank (Some bytes) before now trace Same Unread Unwritten Unheld (Incomplete generation rank) one is = λ contents fetchable full read written. absurd (no_low_rank bytes contents rank one is.1.1 fetchable full)
-full_rank (Some bytes) before now trace Same Unread Unwritten Unheld (Mismatch found) one is = λ contents fetchable full read written. inr (inl (found, refl))
-full_rank (Some bytes) before now trace Same Unread Unwritten Unheld Memory one is = λ contents fetchable full read written. inr (inr refl)
-full_rank (Some bytes) before now trace Same Unread Unwritten Unheld NotBuilt one is = λ contents fetchable full read written. absurd (is.1 contents fetchable)
+-- a stream is not too long
+not_both : (bytes : List ℕ) (contents : Contents) → IsFetchable bytes contents → IsTooLong bytes → ⊥
+not_both bytes contents fetchable long =
+    let within : length bytes ≤ stream_limit = fetchable.within in
+    let longer : stream_limit < length bytes = long.longer in
+    omega arith
 
--- ---- how the steps make the end
+-- and bytes with a fault within the limit are not too long
+not_too_long : (bytes : List ℕ) (fault : WireFault) → IsUnfetchable bytes fault → IsTooLong bytes → ⊥
+not_too_long bytes fault unfetchable long =
+    let within : length bytes ≤ stream_limit = unfetchable.whole (long.sound fault unfetchable.first) in
+    let longer : stream_limit < length bytes = long.longer in
+    omega arith
 
-has_file : (input : Option (List ℕ)) (contents : Contents) (trace : Trace) (file : List ℕ) → Holds input contents → IsLegalFetch receivers contents trace → IsOnlyFileOf contents trace file → HasFile input trace contents.manifest.digest file
-has_file input contents trace file holds legal is = record {
-  contents = contents;
-  holds = holds;
-  full = is.full;
-  legal = legal;
-  digest_is = refl;
-  is = is.is;
-  only = is.only;
-  length_is = is.length_is;
-}
+module _ (sound : SoundLaw) where
+  not_sound : (bytes : List ℕ) (contents : Contents) (fault : WireFault) → IsFetchable bytes contents → IsUnfetchable bytes fault → ⊥
+  not_sound bytes contents fault fetchable unfetchable =
+      sound bytes contents fault fetchable.stream (subst (λ (b : List ℕ). IsFirstFault b fault) (take_all stream_limit bytes fetchable.within) unfetchable.first)
 
--- a file was written
-end_of_written : (input before now : Option (List ℕ)) (trace kept : Trace) (Same Unread Unwritten Unheld : Type 0) (file : List ℕ) (took : Bool) (end : End) → HasFile input trace (sha256 file) file → IsWritten file before now Unwritten Unheld took end → IsKeptUnless trace kept took end → IsEnd input kept before now Same Unread Unwritten Unheld end
-end_of_written input before now trace kept Same Unread Unwritten Unheld file took Done has is same = record { file = file; has = rw same has; gained = is }
-end_of_written input before now trace kept Same Unread Unwritten Unheld file took ReadFault has is same = absurd is
-end_of_written input before now trace kept Same Unread Unwritten Unheld file took WriteFault has is same = (record { file = file; has = rw same has; gained = is.0 }, is.1)
-end_of_written input before now trace kept Same Unread Unwritten Unheld file took (Incomplete generation rank) has is same = absurd is
-end_of_written input before now trace kept Same Unread Unwritten Unheld file took (Mismatch found) has is same = absurd is
-end_of_written input before now trace kept Same Unread Unwritten Unheld file false Memory has is same = inl (same, inr is)
-end_of_written input before now trace kept Same Unread Unwritten Unheld file true Memory has is same = inr (record { file = file; has = rw same has; gained = is.0 }, is.1)
-end_of_written input before now trace kept Same Unread Unwritten Unheld file took NotBuilt has is same = absurd is
+same_lacking : IncompleteLaw → (contents : Contents) (generation rank other its : ℕ) → IsFirstIncomplete contents generation rank → IsFirstIncomplete contents other its → Incomplete generation rank ≡ Incomplete other its
+same_lacking law contents generation rank other its lacks also =
+    let same = law contents generation rank other its lacks also in
+    ap (λ (g : ℕ). Incomplete g rank) (sym same.0) ∙ ap (λ (r : ℕ). Incomplete other r) (sym same.1)
 
--- there was none to write
-end_of_stop : (input before now : Option (List ℕ)) (trace kept : Trace) (Same Unread Unwritten Unheld : Type 0) (contents : Contents) (end : End) → Holds input contents → IsLegalFetch receivers contents trace → IsJudged contents trace (Err end) → Same → IsKeptUnless trace kept false end → IsEnd input kept before now Same Unread Unwritten Unheld end
-end_of_stop input before now trace kept Same Unread Unwritten Unheld contents Done holds legal judged was same = absurd judged
-end_of_stop input before now trace kept Same Unread Unwritten Unheld contents ReadFault holds legal judged was same = absurd judged
-end_of_stop input before now trace kept Same Unread Unwritten Unheld contents WriteFault holds legal judged was same = absurd judged
-end_of_stop input before now trace kept Same Unread Unwritten Unheld contents (Incomplete generation rank) holds legal judged was same =
-    (was, (judged.0, record { contents = contents; holds = holds; rank_is = judged.1; below = judged.2 }))
-end_of_stop input before now trace kept Same Unread Unwritten Unheld contents (Mismatch found) holds legal judged was same =
-    (was, rw same (record { digest = contents.manifest.digest; file = judged.file; has = has_file input contents trace judged.file holds legal judged.is_file; found_is = judged.found_is; differs = judged.differs }))
-end_of_stop input before now trace kept Same Unread Unwritten Unheld contents Memory holds legal judged was same = inl (same, inl was)
-end_of_stop input before now trace kept Same Unread Unwritten Unheld contents NotBuilt holds legal judged was same = absurd judged
+-- ---- the end that is left
 
-pub end_of_reception : (input before now : Option (List ℕ)) (trace kept : Trace) (Same Unread Unwritten Unheld : Type 0) (file : Result (ListValue ℕ) End) (end : End) → IsReceptionOf input trace file → IfOk file (λ f. (took : Bool) × IsWritten f.items before now Unwritten Unheld took end × IsKeptUnless trace kept took end) → IfErr file (λ e. (end ≡ e) × Same × IsKeptUnless trace kept false end) → IsEnd input kept before now Same Unread Unwritten Unheld end
-end_of_reception input before now trace kept Same Unread Unwritten Unheld (Ok file) end is written stopped =
-    let has = has_file input is.contents trace file.items is.holds is.legal is.judged.is_file in
-    end_of_written input before now trace kept Same Unread Unwritten Unheld file.items written.0 end (subst (λ (d : List ℕ). HasFile input trace d file.items) (sym is.judged.digest) has) written.1 written.2
-end_of_reception input before now trace kept Same Unread Unwritten Unheld (Err e) end is written stopped =
-    let kept_at : IsKeptUnless trace kept false e = subst (λ (x : End). IsKeptUnless trace kept false x) stopped.0 stopped.2 in
-    subst (λ (x : End). IsEnd input kept before now Same Unread Unwritten Unheld x) (sym stopped.0) (end_of_stop input before now trace kept Same Unread Unwritten Unheld is.contents e is.holds is.legal is.judged stopped.1 kept_at)
+module _ (one : IncompleteLaw) (not_full_law : NotFullLaw) (sound : SoundLaw) (fault_law : FaultLaw) (receivers : ℕ) (bytes : List ℕ) (before now : Option (List ℕ)) (trace : Trace) (Same Unread Sound Unwritten Unheld : Type 0) where
+  abbrev Ends : End → Type 0
+  Ends end = IsEnd receivers (Some bytes) trace before now Same Unread Sound Unwritten Unheld end
 
--- ---- what is kept
+  -- a stream that has full rank
+  pub full_rank : (end : End) → Ends end → (contents : Contents) → IsFetchable bytes contents → HasFullRank contents → ¬ Unread → ¬ Unwritten → (end ≡ Done) ⊎ (((found : List ℕ) × (end ≡ Mismatch found)) ⊎ (end ≡ Memory))
+  full_rank Done is contents fetchable full read written = inl refl
+  full_rank (Usage class) is contents fetchable full read written = absurd is
+  full_rank ReadFault is contents fetchable full read written = absurd (read is.1.0)
+  full_rank WriteFault is contents fetchable full read written = absurd (written is.1)
+  full_rank (TooLarge limit) is contents fetchable full read written = absurd (not_both bytes contents fetchable is.1.1)
+  full_rank (BadStream fault) is contents fetchable full read written = absurd (not_sound sound bytes contents fault fetchable is.1)
+  full_rank (Incomplete generation rank) is contents fetchable full read written =
+      let same = same_contents bytes is.1.contents contents is.1.holds fetchable in
+      absurd (not_full_law is.1.contents generation rank is.1.lacks (subst HasFullRank same full))
+  full_rank (Mismatch found) is contents fetchable full read written = inr (inl (found, refl))
+  full_rank Memory is contents fetchable full read written = inr (inr refl)
 
--- what is kept after a file was written
-kept_of_written : (input before now : Option (List ℕ)) (trace kept : Trace) (Unwritten Unheld : Type 0) (file : List ℕ) (took : Bool) (end : End) → IsTraceOf input trace → IsWritten file before now Unwritten Unheld took end → IsKeptUnless trace kept took end → IsKept end input kept
-kept_of_written input before now trace kept Unwritten Unheld file took Done of is same = rw same of
-kept_of_written input before now trace kept Unwritten Unheld file took ReadFault of is same = absurd is
-kept_of_written input before now trace kept Unwritten Unheld file took WriteFault of is same = rw same of
-kept_of_written input before now trace kept Unwritten Unheld file took (Incomplete generation rank) of is same = absurd is
-kept_of_written input before now trace kept Unwritten Unheld file took (Mismatch found) of is same = absurd is
-kept_of_written input before now trace kept Unwritten Unheld file false Memory of is same = inl same
-kept_of_written input before now trace kept Unwritten Unheld file true Memory of is same = inr (rw same of)
-kept_of_written input before now trace kept Unwritten Unheld file took NotBuilt of is same = absurd is
+  -- a stream of which a generation lacks rank
+  not_full : (contents : Contents) (generation rank : ℕ) (digest file : List ℕ) → IsFetchable bytes contents → IsFirstIncomplete contents generation rank → HasFile receivers (Some bytes) trace digest file → ⊥
+  not_full contents generation rank digest file fetchable lacks has =
+      let same = same_contents bytes has.contents contents has.holds fetchable in
+      not_full_law has.contents generation rank (subst (λ (c : Contents). IsFirstIncomplete c generation rank) same lacks) has.full
 
--- and where there was none to write
-kept_of_stop : (input : Option (List ℕ)) (contents : Contents) (trace kept : Trace) (end : End) → IsTraceOf input trace → IsJudged contents trace (Err end) → IsKeptUnless trace kept false end → IsKept end input kept
-kept_of_stop input contents trace kept Done of judged same = absurd judged
-kept_of_stop input contents trace kept ReadFault of judged same = absurd judged
-kept_of_stop input contents trace kept WriteFault of judged same = absurd judged
-kept_of_stop input contents trace kept (Incomplete generation rank) of judged same = rw same of
-kept_of_stop input contents trace kept (Mismatch found) of judged same = rw same of
-kept_of_stop input contents trace kept Memory of judged same = inl same
-kept_of_stop input contents trace kept NotBuilt of judged same = absurd judged
+  pub low_rank : (end : End) → Ends end → (contents : Contents) (generation rank : ℕ) → IsFetchable bytes contents → IsFirstIncomplete contents generation rank → ¬ Unread → (end ≡ Incomplete generation rank) ⊎ (end ≡ Memory)
+  low_rank Done is contents generation rank fetchable lacks read = absurd (not_full contents generation rank (sha256 is.file) is.file fetchable lacks is.has)
+  low_rank (Usage class) is contents generation rank fetchable lacks read = absurd is
+  low_rank ReadFault is contents generation rank fetchable lacks read = absurd (read is.1.0)
+  low_rank WriteFault is contents generation rank fetchable lacks read = absurd (not_full contents generation rank (sha256 is.0.file) is.0.file fetchable lacks is.0.has)
+  low_rank (TooLarge limit) is contents generation rank fetchable lacks read = absurd (not_both bytes contents fetchable is.1.1)
+  low_rank (BadStream fault) is contents generation rank fetchable lacks read = absurd (not_sound sound bytes contents fault fetchable is.1)
+  low_rank (Incomplete other more) is contents generation rank fetchable lacks read =
+      let same = same_contents bytes is.1.contents contents is.1.holds fetchable in
+      inl (same_lacking one is.1.contents other more generation rank is.1.lacks (subst (λ (c : Contents). IsFirstIncomplete c generation rank) same lacks))
+  low_rank (Mismatch found) is contents generation rank fetchable lacks read = absurd (not_full contents generation rank is.1.digest is.1.file fetchable lacks is.1.has)
+  low_rank Memory is contents generation rank fetchable lacks read = inr refl
 
-pub kept_of_reception : (input before now : Option (List ℕ)) (trace kept : Trace) (Same Unwritten Unheld : Type 0) (file : Result (ListValue ℕ) End) (end : End) → IsReceptionOf input trace file → IfOk file (λ f. (took : Bool) × IsWritten f.items before now Unwritten Unheld took end × IsKeptUnless trace kept took end) → IfErr file (λ e. (end ≡ e) × Same × IsKeptUnless trace kept false end) → IsKept end input kept
-kept_of_reception input before now trace kept Same Unwritten Unheld (Ok file) end is written stopped =
-    kept_of_written input before now trace kept Unwritten Unheld file.items written.0 end (record { contents = is.contents; holds = is.holds; legal = is.legal }) written.1 written.2
-kept_of_reception input before now trace kept Same Unwritten Unheld (Err e) end is written stopped =
-    let kept_at : IsKeptUnless trace kept false e = subst (λ (x : End). IsKeptUnless trace kept false x) stopped.0 stopped.2 in
-    subst (λ (x : End). IsKept x input kept) (sym stopped.0) (kept_of_stop input is.contents trace kept e (record { contents = is.contents; holds = is.holds; legal = is.legal }) is.judged kept_at)
+  -- bytes that are no stream
+  pub unfetchable : (end : End) → Ends end → (fault : WireFault) → IsUnfetchable bytes fault → ¬ Unread → (end ≡ BadStream fault) ⊎ (end ≡ Memory)
+  unfetchable Done is fault un read = absurd (not_sound sound bytes is.has.contents fault (fetchable_of bytes is.has.contents is.has.holds) un)
+  unfetchable (Usage class) is fault un read = absurd is
+  unfetchable ReadFault is fault un read = absurd (read is.1.0)
+  unfetchable WriteFault is fault un read = absurd (not_sound sound bytes is.0.has.contents fault (fetchable_of bytes is.0.has.contents is.0.has.holds) un)
+  unfetchable (TooLarge limit) is fault un read = absurd (not_too_long bytes fault un is.1.1)
+  unfetchable (BadStream other) is fault un read = inl (ap BadStream (fault_law (take stream_limit bytes) other fault is.1.first un.first))
+  unfetchable (Incomplete generation rank) is fault un read = absurd (not_sound sound bytes is.1.contents fault (fetchable_of bytes is.1.contents is.1.holds) un)
+  unfetchable (Mismatch found) is fault un read = absurd (not_sound sound bytes is.1.has.contents fault (fetchable_of bytes is.1.has.contents is.1.has.holds) un)
+  unfetchable Memory is fault un read = inr refl
 
--- ---- the words
+  -- bytes past the limit
+  pub too_long : (end : End) → Ends end → IsTooLong bytes → ¬ Unread → (end ≡ TooLarge stream_limit) ⊎ (end ≡ Memory)
+  too_long Done is long read = absurd (not_both bytes is.has.contents (fetchable_of bytes is.has.contents is.has.holds) long)
+  too_long (Usage class) is long read = absurd is
+  too_long ReadFault is long read = absurd (read is.1.0)
+  too_long WriteFault is long read = absurd (not_both bytes is.0.has.contents (fetchable_of bytes is.0.has.contents is.0.has.holds) long)
+  too_long (TooLarge limit) is long read = inl (ap TooLarge is.1.0)
+  too_long (BadStream fault) is long read = absurd (not_too_long bytes fault is.1 long)
+  too_long (Incomplete generation rank) is long read = absurd (not_both bytes is.1.contents (fetchable_of bytes is.1.contents is.1.holds) long)
+  too_long (Mismatch found) is long read = absurd (not_both bytes is.1.has.contents (fetchable_of bytes is.1.has.contents is.1.has.holds) long)
+  too_long Memory is long read = inr refl
 
--- a list of one word
-pub one_word : (words : List (List ℕ)) (word : List ℕ) → slice_get words 0 ≡ Some word → length words ≡ 1 → words ≡ word ∷ []
-one_word [] word first one = absurd (omega arith)
-one_word (x ∷ []) word first one = cc
-one_word (x ∷ y ∷ words) word first one = absurd (omega arith)
+  -- a stream whose packets are true to a file
+  abbrev SourceLaw : Type 0
+  SourceLaw = (contents : Contents) (file : List ℕ) (blocks : ℕ → List (List ℕ)) → IsLegalFetch receivers contents trace → IsOnlyFileOf contents.manifest.shape (recorded_packets trace.bases.items) file → AreTrueTo contents blocks → file ≡ source_file contents.manifest.shape blocks
+
+  source_is : SourceLaw → (contents : Contents) (blocks : ℕ → List (List ℕ)) (digest file : List ℕ) → IsFetchable bytes contents → AreTrueTo contents blocks → HasFile receivers (Some bytes) trace digest file → (source_file contents.manifest.shape blocks ≡ file) × (contents.manifest.digest ≡ digest)
+  source_is law contents blocks digest file fetchable true_to has =
+      let same = same_contents bytes has.contents contents has.holds fetchable in
+      let true_there = subst (λ (c : Contents). AreTrueTo c blocks) same true_to in
+      (ap (λ (c : Contents). source_file c.manifest.shape blocks) same ∙ sym (law has.contents file blocks has.legal has.is_file true_there), ap (λ (c : Contents). c.manifest.digest) same ∙ has.digest_is)
+
+  pub true_packets : SourceLaw → (end : End) → Ends end → (contents : Contents) (blocks : ℕ → List (List ℕ)) (file : List ℕ) → IsFetchable bytes contents → HasFullRank contents → AreTrueTo contents blocks → file ≡ source_file contents.manifest.shape blocks → sha256 file ≡ contents.manifest.digest → ¬ Unread → ¬ Unwritten → ((end ≡ Done) × Appends before now file) ⊎ (end ≡ Memory)
+  true_packets law Done is contents blocks file fetchable full true_to file_is matches read written =
+      let both = source_is law contents blocks (sha256 is.file) is.file fetchable true_to is.has in
+      inl (refl, subst (λ (l : List ℕ). Appends before now l) (sym (file_is ∙ both.0)) is.gained)
+  true_packets law (Usage class) is contents blocks file fetchable full true_to file_is matches read written = absurd is
+  true_packets law ReadFault is contents blocks file fetchable full true_to file_is matches read written = absurd (read is.1.0)
+  true_packets law WriteFault is contents blocks file fetchable full true_to file_is matches read written = absurd (written is.1)
+  true_packets law (TooLarge limit) is contents blocks file fetchable full true_to file_is matches read written = absurd (not_both bytes contents fetchable is.1.1)
+  true_packets law (BadStream fault) is contents blocks file fetchable full true_to file_is matches read written = absurd (not_sound sound bytes contents fault fetchable is.1)
+  true_packets law (Incomplete generation rank) is contents blocks file fetchable full true_to file_is matches read written =
+      let same = same_contents bytes is.1.contents contents is.1.holds fetchable in
+      absurd (not_full_law is.1.contents generation rank is.1.lacks (subst HasFullRank same full))
+  true_packets law (Mismatch found) is contents blocks file fetchable full true_to file_is matches read written =
+      let both = source_is law contents blocks is.1.digest is.1.file fetchable true_to is.1.has in
+      absurd (is.1.differs (is.1.found_is ∙ ap sha256 (sym (file_is ∙ both.0)) ∙ matches ∙ both.1))
+  true_packets law Memory is contents blocks file fetchable full true_to file_is matches read written = inr refl

@@ -1,70 +1,119 @@
--- From the records to the file.
-use Rattle.std.proofs.Common.{◌≡◌, ◌≤◌, ℕ, List, [], ◌∷◌, length, ap, subst, sym, ◌∙◌, arith}
-use Rattle.std.specs.Prelude.{Result, Ok, Err, IfOk, IfErr}
-use Rattle.std.specs.List.{All, flat_map}
-use Rattle.std.proofs.lemmas.List.{append-nil, length-map}
-use Rattle.std.proofs.lemmas.List.Elements.{All-map, All-weaker}
-use Rattle.sha2.specs.Sha256.{sha256}
-use Rattle.linear_spec.specs.List.{ListValue}
+-- From the records of all bases to the file.
+use Rattle.std.proofs.Common.{◌≡◌, ◌≤◌, ◌<◌, ◌*◌, ℕ, List, [], ◌∷◌, ◌++◌, length, take, refl, ap, subst, sym, ◌∙◌, arith}
+use Rattle.std.specs.List.{All, AllZip, flat_map}
+use Rattle.std.proofs.Math.Nat.{mul_assoc}
+use Rattle.std.proofs.lemmas.Grind.{div_ceil_times}
+use Rattle.std.proofs.lemmas.List.{append-nil, length-append, length-take-le}
+use Rattle.std.proofs.lemmas.List.Concat.{flat_map-append}
+use Rattle.std.proofs.lemmas.List.Elements.{All-append, All-head, All-map, All-nil, All-tail, All-weaker}
 use Rattle.linear_spec.specs.declared.packet.Packet.{Packet}
-use Rattle.linear_spec.specs.declared.record.Record.{Record}
-use Rattle.linear_spec.specs.Symbols.{IsVector}
+use Rattle.linear_spec.specs.Symbols.{IsVector, be_bytes_of}
 use Rattle.linear_spec.specs.Packet.{Fits, coefficients_of}
-use Rattle.linear_spec.specs.SequentialBasis.{packets_of}
 use Rattle.linear_spec.specs.Solving.{Solves}
 use Rattle.linear_spec.specs.Span.{HasRank}
-use Rattle.basis_core.specs.declared.trace.BasisTrace.{BasisTrace}
-use Rattle.generation.specs.Shape.{Dimensions, symbols_per_block}
+use Rattle.plain_basis.specs.Basis.{Basis}
+use Rattle.generation.specs.Shape.{Dimensions, IsShape, generations_of, symbols_per_block}
 use Rattle.generation.specs.Blocks.{file_of}
-use Rattle.packet_wire.specs.Stream.{Contents}
-use Rattle.avalanche_cli.specs.Fetch.{HasPacketRank, SolveEach}
-use Rattle.avalanche_cli.specs.Reception.{IsJudged, IsOnlyFileOf, IsSolvedFile, IsStop}
-use Rattle.avalanche_cli.specs.declared.end.End.{End}
-use Rattle.avalanche_cli.specs.declared.end.End.TheVariants.{Done, ReadFault, WriteFault, Incomplete, Mismatch, Memory, NotBuilt}
-use Rattle.avalanche_cli.specs.declared.trace.Trace.{Trace}
+use Rattle.avalanche_cli.specs.Files.{AreSolvedBy, IsOnlyFileOf, SolveEach}
+use Rattle.avalanche_cli.specs.Reception.{AppendsSolution, AreSolvedBytes, IsFull}
 
 -- no rank is above the number of coefficients
-pub full : (k s rank : ℕ) (packets : List Packet) → ((n : ℕ) (vectors : List (List ℕ)) (r : ℕ) → All (IsVector n) vectors → HasRank n vectors r → r ≤ n) → All (Fits k s) packets → HasRank k (coefficients_of packets) rank → k ≤ rank → rank ≡ k
-full k s rank packets law fit is high =
+pub at_most : (k s rank : ℕ) (packets : List Packet) → ((n : ℕ) (vectors : List (List ℕ)) (r : ℕ) → All (IsVector n) vectors → HasRank n vectors r → r ≤ n) → All (Fits k s) packets → HasRank k (coefficients_of packets) rank → rank ≤ k
+at_most k s rank packets law fit is =
     let vectors : All (IsVector k) (coefficients_of packets) = All-map (IsVector k) (λ (p : Packet). p.coeffs) packets (All-weaker (Fits k s) (λ p. IsVector k p.coeffs) (λ p fits. fits.coeffs) packets fit) in
-    let low : rank ≤ k = law k (coefficients_of packets) rank vectors is in
-    omega arith
+    law k (coefficients_of packets) rank vectors is
 
-only_file : (shape : Dimensions) (basis : BasisTrace) (packets : List Packet) (file other : List ℕ) → packets_of basis.records.items ≡ packets → IsSolvedFile shape packets file → (blocks : List (List (List ℕ))) → SolveEach shape.k (symbols_per_block shape) (basis ∷ []) blocks → other ≡ file_of shape (flat_map (λ generation. generation) blocks) → other ≡ file
-only_file shape basis packets file other same is [] solve file_is = absurd solve
-only_file shape basis packets file other same is (blocks ∷ more ∷ rest) solve file_is = absurd solve.1.1
-only_file shape basis packets file other same is (blocks ∷ []) solve file_is =
-    let solves = subst (λ (l : List Packet). Solves shape.k (symbols_per_block shape) l blocks) same solve.1.0 in
-    file_is ∙ ap (file_of shape) (append-nil blocks ∙ is.only blocks solves) ∙ sym is.file_is
+-- ---- pairs of lists
 
--- one basis with these packets has the file of them, and no other
-pub one_basis : (contents : Contents) (trace : Trace) (basis : BasisTrace) (packets : List Packet) (file : List ℕ) → trace.bases.items ≡ basis ∷ [] → packets_of basis.records.items ≡ packets → HasPacketRank contents (length packets) → IsSolvedFile contents.manifest.shape packets file → IsOnlyFileOf contents trace file
-one_basis contents trace basis packets file bases same rank is =
-    let shape = contents.manifest.shape in
-    let count : length basis.records.items ≡ shape.k = sym (length-map basis.records.items (λ (r : Record). r.packet)) ∙ ap length same ∙ is.full in
-    record {
-      full = subst (λ (n : ℕ). HasPacketRank contents n) is.full rank;
-      is = rw bases (record {
-        blocks = is.blocks ∷ [];
-        solve = (count, (rw same is.solve, tt));
-        file_is = is.file_is ∙ ap (file_of shape) (sym (append-nil is.blocks));
-      });
-      only = rw bases (λ other its. only_file shape basis packets file other same is its.blocks its.solve its.file_is);
-      length_is = is.length_is;
-    }
+zip_more : {X Y : Type 0} (R : X → Y → Type 0) (xs : List X) (ys : List Y) (x : X) (y : Y) → AllZip R xs ys → R x y → AllZip R (xs ++ x ∷ []) (ys ++ y ∷ [])
+zip_more R [] [] x y all here = (here, tt)
+zip_more R [] (other ∷ ys) x y all here = absurd all
+zip_more R (first ∷ xs) [] x y all here = absurd all
+zip_more R (first ∷ xs) (other ∷ ys) x y all here = (all.0, zip_more R xs ys x y all.1 here)
 
--- what solving tells is what is told of the stream
-pub judged_of : (contents : Contents) (trace : Trace) (basis : BasisTrace) (packets : List Packet) (file : Result (ListValue ℕ) End) → trace.bases.items ≡ basis ∷ [] → packets_of basis.records.items ≡ packets → HasPacketRank contents (length packets) → IfOk file (λ f. IsSolvedFile contents.manifest.shape packets f.items) → IfOk file (λ f. sha256 f.items ≡ contents.manifest.digest) → IfErr file (IsStop contents.manifest packets) → IsJudged contents trace file
-judged_of contents trace basis packets (Ok file) bases same rank solved digest stop = record { is_file = one_basis contents trace basis packets file.items bases same rank solved; digest = digest }
-judged_of contents trace basis packets (Err Done) bases same rank solved digest stop = absurd stop
-judged_of contents trace basis packets (Err ReadFault) bases same rank solved digest stop = absurd stop
-judged_of contents trace basis packets (Err WriteFault) bases same rank solved digest stop = absurd stop
-judged_of contents trace basis packets (Err (Incomplete generation found)) bases same rank solved digest stop = (stop.0, subst (λ (n : ℕ). HasPacketRank contents n) (sym stop.1) rank, stop.2)
-judged_of contents trace basis packets (Err (Mismatch found)) bases same rank solved digest stop = record {
-  file = stop.file;
-  is_file = one_basis contents trace basis packets stop.file bases same rank stop.is;
-  found_is = stop.found_is;
-  differs = stop.differs;
+-- what stands beside a last member
+record IsLast {X Y : Type 0} (R : X → Y → Type 0) (xs : List X) (x : X) (zs : List Y) : Type 0 where
+  ys : List Y
+  y : Y
+  is : zs ≡ ys ++ y ∷ []
+  all : AllZip R xs ys
+  here : R x y
+
+zip_last : {X Y : Type 0} (R : X → Y → Type 0) (xs : List X) (x : X) (zs : List Y) → AllZip R (xs ++ x ∷ []) zs → IsLast R xs x zs
+zip_last R [] x [] all = absurd all
+zip_last R [] x (z ∷ []) all = record { ys = []; y = z; is = refl; all = tt; here = all.0 }
+zip_last R [] x (z ∷ more ∷ zs) all = absurd all.1
+zip_last R (first ∷ xs) x [] all = absurd all
+zip_last R (first ∷ xs) x (z ∷ zs) all =
+    let rest = zip_last R xs x zs all.1 in
+    record { ys = z ∷ rest.ys; y = rest.y; is = ap (λ l. z ∷ l) rest.is; all = (all.0, rest.all); here = rest.here }
+
+-- ---- one basis more
+
+abbrev pub joined_of : List (List (List ℕ)) → List (List ℕ)
+joined_of blocks = flat_map (λ generation. generation) blocks
+
+joined_more : (blocks : List (List (List ℕ))) (more : List (List ℕ)) → joined_of (blocks ++ more ∷ []) ≡ joined_of blocks ++ more
+joined_more blocks more = flat_map-append (λ (l : List (List ℕ)). l) blocks (more ∷ []) ∙ ap (λ (l : List (List ℕ)). joined_of blocks ++ l) (append-nil more)
+
+pub solved_more : (k s : ℕ) (packets : List (List Packet)) (basis : Basis) (before after : List ℕ) → basis.k ≡ k → basis.s ≡ s → IsFull k basis → AreSolvedBytes k s packets before → AppendsSolution basis before after → AreSolvedBytes k s (packets ++ basis.packets ∷ []) after
+solved_more k s packets basis before after k_is s_is full are appends = record {
+  blocks = are.blocks ++ appends.blocks ∷ [];
+  solve = zip_more (AreSolvedBy k s) packets are.blocks basis.packets appends.blocks are.solve (record { full = full; solves = subst (λ (n : ℕ). Solves n s basis.packets appends.blocks) k_is (subst (λ (m : ℕ). Solves basis.k m basis.packets appends.blocks) s_is appends.solves) });
+  only = λ others solve.
+      let last = zip_last (AreSolvedBy k s) packets basis.packets others solve in
+      let front : last.ys ≡ are.blocks = are.only last.ys last.all in
+      let here : last.y ≡ appends.blocks = appends.only last.y (subst (λ (n : ℕ). Solves n basis.s basis.packets last.y) (sym k_is) (subst (λ (m : ℕ). Solves k m basis.packets last.y) (sym s_is) last.here.solves)) in
+      last.is ∙ ap (λ (l : List (List (List ℕ))). l ++ last.y ∷ []) front ∙ ap (λ (b : List (List ℕ)). are.blocks ++ b ∷ []) here;
+  bytes_are = appends.appended ∙ ap (λ (l : List ℕ). l ++ flat_map be_bytes_of appends.blocks) are.bytes_are
+      ∙ sym (flat_map-append be_bytes_of (joined_of are.blocks) appends.blocks) ∙ ap (flat_map be_bytes_of) (sym (joined_more are.blocks appends.blocks));
 }
-judged_of contents trace basis packets (Err Memory) bases same rank solved digest stop = tt
-judged_of contents trace basis packets (Err NotBuilt) bases same rank solved digest stop = absurd stop
+
+-- ---- the length of the file
+
+joined_vectors : (k s : ℕ) (packets : List (List Packet)) (blocks : List (List (List ℕ))) → SolveEach k s packets blocks → All (IsVector s) (joined_of blocks)
+joined_vectors k s [] [] solve = All-nil (IsVector s)
+joined_vectors k s [] (first ∷ blocks) solve = absurd solve
+joined_vectors k s (p ∷ packets) [] solve = absurd solve
+joined_vectors k s (p ∷ packets) (first ∷ blocks) solve = All-append (IsVector s) first (joined_of blocks) solve.0.solves.vectors (joined_vectors k s packets blocks solve.1)
+
+joined_count : (k s : ℕ) (packets : List (List Packet)) (blocks : List (List (List ℕ))) → SolveEach k s packets blocks → length (joined_of blocks) ≡ length packets * k
+joined_count k s [] [] solve = omega arith
+joined_count k s [] (first ∷ blocks) solve = absurd solve
+joined_count k s (p ∷ packets) [] solve = absurd solve
+joined_count k s (p ∷ packets) (first ∷ blocks) solve = omega (arith, length-append first (joined_of blocks), solve.0.solves.count, joined_count k s packets blocks solve.1)
+
+-- the law of the bytes of symbols
+abbrev pub TwiceLaw : Type 0
+TwiceLaw = (symbols : List ℕ) → length (be_bytes_of symbols) ≡ 2 * length symbols
+
+byte_count : TwiceLaw → (s : ℕ) (vectors : List (List ℕ)) → All (IsVector s) vectors → length (flat_map be_bytes_of vectors) ≡ length vectors * (2 * s)
+byte_count twice s [] all = omega arith
+byte_count twice s (v ∷ vs) all =
+    let first = All-head (IsVector s) v vs all in
+    omega (arith, length-append (be_bytes_of v) (flat_map be_bytes_of vs), twice v, first.count, byte_count twice s vs (All-tail (IsVector s) v vs all))
+
+-- the blocks of all generations have the room of the file
+len_within : (shape : Dimensions) → IsShape shape → shape.len ≤ generations_of shape * shape.k * shape.block
+unfolding generations_of
+len_within shape is =
+    let room : 0 < shape.k * shape.block = grind arith in
+    rw (mul_assoc (generations_of shape) shape.k shape.block) (div_ceil_times shape.len (shape.k * shape.block) room).0
+
+-- ---- the file
+
+pub only_file : TwiceLaw → (shape : Dimensions) (packets : List (List Packet)) (bytes : List ℕ) → IsShape shape → length packets ≡ generations_of shape → AreSolvedBytes shape.k (symbols_per_block shape) packets bytes → IsOnlyFileOf shape packets (take shape.len bytes)
+unfolding file_of
+only_file twice shape packets bytes is count are =
+    let k = shape.k in
+    let s = symbols_per_block shape in
+    let even : 2 * symbols_per_block shape ≡ shape.block = omega arith in
+    let vectors : All (IsVector s) (joined_of are.blocks) = joined_vectors k s packets are.blocks are.solve in
+    let whole : length (flat_map be_bytes_of (joined_of are.blocks)) ≡ length (joined_of are.blocks) * (2 * symbols_per_block shape) = byte_count twice s (joined_of are.blocks) vectors in
+    let all_bytes : length bytes ≡ generations_of shape * k * shape.block = rw (joined_count k s packets are.blocks are.solve, count, even) at (ap length are.bytes_are ∙ whole) in
+    let within : shape.len ≤ length bytes = subst (λ (n : ℕ). shape.len ≤ n) (sym all_bytes) (len_within shape is) in
+    record {
+      is = record { blocks = are.blocks; solve = are.solve; file_is = ap (take shape.len) are.bytes_are };
+      only = λ other its. its.file_is ∙ ap (λ (l : List (List (List ℕ))). take shape.len (flat_map be_bytes_of (joined_of l))) (are.only its.blocks its.solve) ∙ ap (take shape.len) (sym are.bytes_are);
+      length_is = length-take-le shape.len bytes within;
+    }

@@ -1,39 +1,44 @@
--- Packets that are all true to some blocks: the file of a legal trace is then the file of these blocks.
-use Rattle.std.proofs.Common.{◌≡◌, ◌⊎◌, inl, inr, ℕ, ◌+◌, ◌<◌, Bool, true, false, cond, List, [], ◌∷◌, length, Option, Some, None, refl, sym, ap, ◌∙◌, subst, arith}
-use Rattle.std.specs.Prelude.{IfSome, slice_index_or}
-use Rattle.std.specs.Io.KnownBytes.{Appends}
-use Rattle.std.specs.List.{All, AllByRecursion, filter}
-use Rattle.std.proofs.lemmas.List.{append-nil}
-use Rattle.std.proofs.lemmas.List.Elements.{All-map, recursion_from_All}
-use Rattle.sha2.specs.Sha256.{sha256}
+-- Packets that are all true to some blocks: the only file of a legal trace is then the file of these blocks.
+use Rattle.std.proofs.Common.{◌≡◌, ℕ, zero, suc, ◌+◌, ◌<◌, Bool, true, false, cond, List, [], ◌∷◌, ◌++◌, length, map, get_or, Some, refl, sym, ap, ◌∙◌, subst, arith, inl, inr}
+use Rattle.std.specs.Prelude.{◌&&◌}
+use Rattle.std.specs.List.{All, AllByRecursion, AllZip, filter, flat_map, range_with_len}
+use Rattle.std.proofs.lemmas.List.{get_or-map, length-map}
+use Rattle.std.proofs.lemmas.List.FromFn.{get_or-map-range_with_len, length-map-range_with_len}
+use Rattle.std.proofs.lemmas.List.Elements.{All-from_recursion, All-map, recursion_from_All}
 use Rattle.linear_spec.specs.declared.equations.Equations.{Equations}
 use Rattle.linear_spec.specs.declared.packet.Packet.{Packet}
 use Rattle.linear_spec.specs.declared.record.Record.{Record}
 use Rattle.linear_spec.specs.declared.reply.Reply.{Reply}
 use Rattle.linear_spec.specs.declared.reply.Reply.TheVariants.{FailedCheck, Innovative, NotInnovative, Conflicting}
 use Rattle.linear_spec.specs.Packet.{IsTrueTo}
-use Rattle.linear_spec.specs.Span.{HasRank}
+use Rattle.linear_spec.specs.Passing.{Passes}
+use Rattle.linear_spec.specs.SequentialBasis.{packets_of}
 use Rattle.basis_core.specs.declared.trace.BasisTrace.{BasisTrace}
 use Rattle.basis_core.specs.Calls.{KeptCall, KeptOffer, KeptDraw, recorded_at_reply}
 use Rattle.basis_core.specs.Merge.{Given}
 use Rattle.basis_core.specs.Legal.{IsLegalHistory, IsRecordedIn}
+use Rattle.basis_core.specs.Run.{AreInnovative, AreInnovativeFrom}
 use Rattle.generation.specs.Shape.{generations_of, symbols_per_block}
 use Rattle.generation.specs.Blocks.{file_of}
 use Rattle.packet_wire.specs.Stream.{Contents}
-use Rattle.avalanche_cli.specs.Trace.{Indexed, indexed_from, is_dealt, dealt_to, AreOffersOf, given_below, equations_of, IsLegalBasis, IsLegalFetch}
-use Rattle.avalanche_cli.specs.Fetch.{AreTrueTo, HasFile, HasPacketRank, IsFetchable, IsFileOf, SolveEach, receivers}
-use Rattle.avalanche_cli.specs.FetchSteps.{IsEnd}
+use Rattle.avalanche_cli.specs.Files.{AreSolvedBy, IsOnlyFileOf, SolveEach, recorded_packets, source_file}
+use Rattle.avalanche_cli.specs.Packets.{AreTrueTo, equations_of}
+use Rattle.avalanche_cli.specs.Trace.{Indexed, indexed_from, is_dealt, dealt_to, AreOffersOf, given_below, IsLegalBasis, IsLegalFetch}
 use Rattle.avalanche_cli.specs.declared.trace.Trace.{Trace}
-use Rattle.avalanche_cli.specs.declared.end.End.{End}
-use Rattle.avalanche_cli.specs.declared.end.End.TheVariants.{Done, ReadFault, WriteFault, Incomplete, Mismatch, Memory, NotBuilt}
-use Rattle.avalanche_cli.proofs.TraceLemmas.{given_here}
-use Rattle.avalanche_cli.proofs.EndLemmas.{no_low_rank, same_contents}
+use Rattle.avalanche_cli.proofs.PassingLemmas.{is_passing, passes_of}
+use Rattle.avalanche_cli.proofs.TraceLemmas.{given_here, no_trace}
 
--- the law that each record of a caller was recorded by one of its calls
+-- ---- the laws that are used
+
+-- each record of a caller was recorded by one of its calls
 abbrev pub RecordedLaw : Type 0
 RecordedLaw = (equations : Equations) (given : Given) (records : List Record) (number : ℕ) (calls : List KeptCall) → IsLegalHistory equations given records → given number ≡ Some calls → All (λ record'. record'.caller ≡ number → IsRecordedIn calls record'.packet) records
 
--- ---- what holds of all packets holds of those recorded
+-- records pass, and each is fresh at those before it
+abbrev pub InnovativeLaw : Type 0
+InnovativeLaw = (equations : Equations) (given : Given) (records : List Record) → IsLegalHistory equations given records → AreInnovative equations (packets_of records)
+
+-- ---- what holds of the packets of a generation that pass holds of those recorded
 
 same_packet : (offered packet : Packet) (reply : Reply) → recorded_at_reply offered reply ≡ Some packet → offered ≡ packet
 same_packet offered packet (FailedCheck check at) is = absurd cc
@@ -49,71 +54,97 @@ of_offered P (first ∷ dealt) (KeptDraw tag drawn ∷ calls) packet are all is 
 of_offered P (first ∷ dealt) (KeptOffer tag offered reply ∷ calls) packet are all (inl is) = subst P (sym are.1.0 ∙ same_packet offered packet reply is) all.0
 of_offered P (first ∷ dealt) (KeptOffer tag offered reply ∷ calls) packet are all (inr is) = of_offered P dealt calls packet are.1.1 all.1 is
 
-of_indexed : (P : Packet → Type 0) (packets : List Packet) (index : ℕ) → AllByRecursion P packets → AllByRecursion (λ d. P d.packet) (indexed_from packets index)
-of_indexed P [] index all = tt
-of_indexed P (first ∷ packets) index all = (all.0, of_indexed P packets (index + 1) all.1)
+kept_head : {X : Type 0} (P : X → Type 0) (c : Bool) (x : X) (xs : List X) → c ≡ true → AllByRecursion P (cond c (x ∷ xs) xs) → P x
+kept_head P true x xs is all = all.0
+kept_head P false x xs is all = absurd cc
 
-of_filtered : (Q : Indexed → Type 0) (p : Indexed → Bool) (dealt : List Indexed) → AllByRecursion Q dealt → AllByRecursion Q (filter p dealt)
-of_filtered Q p [] all = tt
-of_filtered Q p (first ∷ dealt) all = go (p first) (of_filtered Q p dealt all.1)
-  where
-    go : (b : Bool) → AllByRecursion Q (filter p dealt) → AllByRecursion Q (cond b (first ∷ filter p dealt) (filter p dealt))
-    go true rest = (all.0, rest)
-    go false rest = rest
+kept_tail : {X : Type 0} (P : X → Type 0) (c : Bool) (x : X) (xs : List X) → AllByRecursion P (cond c (x ∷ xs) xs) → AllByRecursion P xs
+kept_tail P true x xs all = all.1
+kept_tail P false x xs all = all
 
-of_records : RecordedLaw → (P : Packet → Type 0) (equations : Equations) (count : ℕ) (packets : List Packet) (generation : ℕ) (basis : BasisTrace) → IsLegalBasis equations count packets generation basis → All P packets → All (λ record'. P record'.packet) basis.records.items
-of_records law P equations count packets generation basis is all = λ place other low.
-    let r = slice_index_or basis.records.items place other in
-    let listed : r.caller < count = is.listed place other low in
+kept_more : {X : Type 0} (P : X → Type 0) (c : Bool) (x : X) (xs : List X) → (c ≡ true → P x) → AllByRecursion P xs → AllByRecursion P (cond c (x ∷ xs) xs)
+kept_more P true x xs here all = (here refl, all)
+kept_more P false x xs here all = all
+
+and_right : (a b : Bool) → a && b ≡ true → b ≡ true
+and_right true b is = is
+and_right false b is = absurd cc
+
+and_both : (a b : Bool) → a ≡ true → b ≡ true → a && b ≡ true
+and_both true b a_is b_is = b_is
+and_both false b a_is b_is = absurd cc
+
+of_dealt : (P : Packet → Type 0) (equations : Equations) (receivers receiver generation : ℕ) (packets : List Packet) (index : ℕ) → AllByRecursion P (filter (is_passing equations generation) packets) → AllByRecursion (λ d. Passes equations d.packet → P d.packet) (filter (is_dealt receivers receiver generation) (indexed_from packets index))
+of_dealt P equations receivers receiver generation [] index all = tt
+of_dealt P equations receivers receiver generation (first ∷ packets) index all =
+    let dealt : Indexed = record { index = index; packet = first } in
+    let rest = filter (is_passing equations generation) packets in
+    kept_more (λ (d : Indexed). Passes equations d.packet → P d.packet) (is_dealt receivers receiver generation dealt) dealt (filter (is_dealt receivers receiver generation) (indexed_from packets (index + 1)))
+    (λ is pass. kept_head P (is_passing equations generation first) first rest (and_both _ _ (and_right _ _ is) (passes_of equations first pass)) all)
+    (of_dealt P equations receivers receiver generation packets (index + 1) (kept_tail P (is_passing equations generation first) first rest all))
+
+all_pass : (equations : Equations) (records : List Record) (front : List Packet) → AreInnovativeFrom equations (packets_of records) front → AllByRecursion (λ (r : Record). Passes equations r.packet) records
+all_pass equations [] front are = tt
+all_pass equations (first ∷ records) front are = (are.0.0, all_pass equations records (front ++ first.packet ∷ []) are.1)
+
+of_records : RecordedLaw → InnovativeLaw → (P : Packet → Type 0) (equations : Equations) (receivers : ℕ) (packets : List Packet) (generation : ℕ) (basis : BasisTrace) → IsLegalBasis equations receivers packets generation basis → All P (filter (is_passing equations generation) packets) → All P (packets_of basis.records.items)
+of_records recorded innovative P equations receivers packets generation basis is all =
+    let records = basis.records.items in
+    let given = given_below receivers is.kept in
+    let pass : All (λ (r : Record). Passes equations r.packet) records = All-from_recursion (λ (r : Record). Passes equations r.packet) records (all_pass equations records [] (innovative equations given records is.legal)) in
+    All-map P (λ (r : Record). r.packet) records (λ place other low.
+    let r = get_or records place other in
+    let listed : r.caller < receivers = is.listed place other low in
     let calls = is.kept r.caller in
-    let recorded : IsRecordedIn calls r.packet = law equations (given_below count is.kept) basis.records.items r.caller calls is.legal (given_here count r.caller is.kept listed) place other low refl in
-    of_offered P (dealt_to count r.caller generation packets) calls r.packet (is.offers r.caller listed) (of_filtered (λ d. P d.packet) (is_dealt count r.caller generation) (indexed_from packets 0) (of_indexed P packets 0 (recursion_from_All P packets all))) recorded
+    of_offered (λ (p : Packet). Passes equations p → P p) (dealt_to receivers r.caller generation packets) calls r.packet (is.offers r.caller listed)
+    (of_dealt P equations receivers r.caller generation packets 0 (recursion_from_All P (filter (is_passing equations generation) packets) all))
+    (recorded equations given records r.caller calls is.legal (given_here receivers r.caller is.kept listed) place other low refl)
+    (pass place other low))
 
 -- ---- the file
 
-one_item : (bases : List BasisTrace) → length bases ≡ 1 → (basis : BasisTrace) × (bases ≡ basis ∷ [])
-one_item [] one = absurd (omega arith)
-one_item (basis ∷ []) one = (basis, refl)
-one_item (basis ∷ more ∷ bases) one = absurd (omega arith)
+zip_from : {X Y : Type 0} (R : X → Y → Type 0) (xs : List X) (ys : List Y) → length xs ≡ length ys → ((i : ℕ) (x : X) (y : Y) → i < length xs → R (get_or xs i x) (get_or ys i y)) → AllZip R xs ys
+zip_from R [] [] long each = tt
+zip_from R [] (y ∷ ys) long each = absurd (omega arith)
+zip_from R (x ∷ xs) [] long each = absurd (omega arith)
+zip_from R (x ∷ xs) (y ∷ ys) long each = (each 0 x y (omega arith), zip_from R xs ys (omega arith) (λ i v w low. each (suc i) v w (omega arith)))
 
-first_count : (k s : ℕ) (basis : BasisTrace) (blocks : List (List (List ℕ))) → SolveEach k s (basis ∷ []) blocks → length basis.records.items ≡ k
-first_count k s basis [] solve = absurd solve
-first_count k s basis (first ∷ blocks) solve = solve.0
+zip_at : {X Y : Type 0} (R : X → Y → Type 0) (xs : List X) (ys : List Y) (i : ℕ) (x : X) (y : Y) → AllZip R xs ys → i < length xs → R (get_or xs i x) (get_or ys i y)
+zip_at R [] [] i x y all low = absurd (omega arith)
+zip_at R [] (other ∷ ys) i x y all low = absurd all
+zip_at R (first ∷ xs) [] i x y all low = absurd all
+zip_at R (first ∷ xs) (other ∷ ys) zero x y all low = all.0
+zip_at R (first ∷ xs) (other ∷ ys) (suc i) x y all low = zip_at R xs ys i x y all.1 (omega arith)
 
-module _ (law : RecordedLaw) where
-  of_source : (contents : Contents) (trace : Trace) (file : List ℕ) (blocks : List (List ℕ)) → IsLegalFetch receivers contents trace → generations_of contents.manifest.shape ≡ 1 → IsFileOf contents.manifest.shape trace.bases.items file → AreTrueTo contents blocks → IsFileOf contents.manifest.shape trace.bases.items (file_of contents.manifest.shape blocks)
-  of_source contents trace file blocks legal one is true_to =
-      let shape = contents.manifest.shape in
-      let k = shape.k in
-      let s = symbols_per_block shape in
-      let item = one_item trace.bases.items (legal.count ∙ one) in
-      let basis = item.0 in
-      let legal_basis : IsLegalBasis (equations_of contents) receivers contents.packets 0 basis = subst (λ (l : List BasisTrace). IsLegalBasis (equations_of contents) receivers contents.packets 0 (slice_index_or l 0 basis)) item.1 (legal.bases 0 basis (omega (one, arith))) in
-      let count : length basis.records.items ≡ k = first_count k s basis is.blocks (subst (λ (l : List BasisTrace). SolveEach k s l is.blocks) item.1 is.solve) in
-      let all : All (λ record'. IsTrueTo s blocks record'.packet) basis.records.items = of_records law (IsTrueTo s blocks) (equations_of contents) receivers contents.packets 0 basis legal_basis true_to.true_to in
-      subst (λ (l : List BasisTrace). IsFileOf shape l (file_of shape blocks)) (sym item.1) (record {
-        blocks = blocks ∷ [];
-        solve = (count, (record { count = true_to.count; vectors = true_to.vectors; true_to = All-map (IsTrueTo s blocks) (λ (r : Record). r.packet) basis.records.items all }, tt));
-        file_is = ap (file_of shape) (sym (append-nil blocks));
-      })
+joined_blocks : (blocks : ℕ → List (List ℕ)) (numbers : List ℕ) → flat_map blocks numbers ≡ flat_map (λ (generation : List (List ℕ)). generation) (map blocks numbers)
+joined_blocks blocks [] = refl
+joined_blocks blocks (number ∷ numbers) = ap (λ (l : List (List ℕ)). blocks number ++ l) (joined_blocks blocks numbers)
 
-  true_file : (bytes digest file : List ℕ) (contents : Contents) (trace : Trace) (blocks : List (List ℕ)) → HasFile (Some bytes) trace digest file → IsFetchable bytes contents → AreTrueTo contents blocks → (file_of contents.manifest.shape blocks ≡ file) × (contents.manifest.digest ≡ digest)
-  true_file bytes digest file contents trace blocks has fetchable true_to =
-      let same = same_contents bytes has.contents contents has.holds fetchable in
-      let one : generations_of has.contents.manifest.shape ≡ 1 = subst (λ (c : Contents). generations_of c.manifest.shape ≡ 1) same fetchable.stream.generations in
-      let true_there : AreTrueTo has.contents blocks = subst (λ (c : Contents). AreTrueTo c blocks) same true_to in
-      (ap (λ (c : Contents). file_of c.manifest.shape blocks) same ∙ has.only (file_of has.contents.manifest.shape blocks) (of_source has.contents trace file blocks has.legal one has.is true_there), ap (λ (c : Contents). c.manifest.digest) same ∙ has.digest_is)
-
-  pub true_packets : (input before now : Option (List ℕ)) (trace : Trace) (Same Unread Unwritten Unheld : Type 0) (end : End) → ((n : ℕ) (vectors : List (List ℕ)) (r q : ℕ) → HasRank n vectors r → HasRank n vectors q → r ≡ q) → IsEnd input trace before now Same Unread Unwritten Unheld end → IfSome input (λ bytes. (contents : Contents) (blocks : List (List ℕ)) → IsFetchable bytes contents → HasPacketRank contents contents.manifest.shape.k → AreTrueTo contents blocks → sha256 (file_of contents.manifest.shape blocks) ≡ contents.manifest.digest → ¬ Unread → ¬ Unwritten → ((end ≡ Done) × Appends before now (file_of contents.manifest.shape blocks)) ⊎ (end ≡ Memory))
-  true_packets None before now trace Same Unread Unwritten Unheld end one is = tt
-  true_packets (Some bytes) before now trace Same Unread Unwritten Unheld Done one is = λ contents blocks fetchable full true_to matches read written.
-      let both = true_file bytes (sha256 is.file) is.file contents trace blocks is.has fetchable true_to in
-      inl (refl, subst (λ (l : List ℕ). Appends (before) now l) (sym both.0) is.gained)
-  true_packets (Some bytes) before now trace Same Unread Unwritten Unheld ReadFault one is = λ contents blocks fetchable full true_to matches read written. absurd (read is.1)
-  true_packets (Some bytes) before now trace Same Unread Unwritten Unheld WriteFault one is = λ contents blocks fetchable full true_to matches read written. absurd (written is.1)
-  true_packets (Some bytes) before now trace Same Unread Unwritten Unheld (Incomplete generation rank) one is = λ contents blocks fetchable full true_to matches read written. absurd (no_low_rank bytes contents rank one is.1.1 fetchable full)
-  true_packets (Some bytes) before now trace Same Unread Unwritten Unheld (Mismatch found) one is = λ contents blocks fetchable full true_to matches read written.
-      let both = true_file bytes is.1.digest is.1.file contents trace blocks is.1.has fetchable true_to in
-      absurd (is.1.differs (is.1.found_is ∙ ap sha256 (sym both.0) ∙ matches ∙ both.1))
-  true_packets (Some bytes) before now trace Same Unread Unwritten Unheld Memory one is = λ contents blocks fetchable full true_to matches read written. inr refl
-  true_packets (Some bytes) before now trace Same Unread Unwritten Unheld NotBuilt one is = λ contents blocks fetchable full true_to matches read written. absurd (is.1 contents fetchable)
+pub true_file : RecordedLaw → InnovativeLaw → (receivers : ℕ) (contents : Contents) (trace : Trace) (blocks : ℕ → List (List ℕ)) (file : List ℕ) → IsLegalFetch receivers contents trace → IsOnlyFileOf contents.manifest.shape (recorded_packets trace.bases.items) file → AreTrueTo contents blocks → file ≡ source_file contents.manifest.shape blocks
+true_file recorded innovative receivers contents trace blocks file legal is_file true_to =
+    let shape = contents.manifest.shape in
+    let k = shape.k in
+    let s = symbols_per_block shape in
+    let count = generations_of shape in
+    let packets = recorded_packets trace.bases.items in
+    let packets_at : BasisTrace → List Packet = λ t. packets_of t.records.items in
+    let long : length packets ≡ count = length-map trace.bases.items packets_at ∙ legal.count in
+    let blocks_long : length (map blocks (range_with_len 0 count)) ≡ count = length-map-range_with_len blocks 0 count in
+    let solve : SolveEach k s packets (map blocks (range_with_len 0 count)) = zip_from (AreSolvedBy k s) packets (map blocks (range_with_len 0 count)) (long ∙ sym blocks_long) (λ generation ps bs low.
+    let below : generation < count = subst (λ (n : ℕ). generation < n) long low in
+    let full : length (get_or packets generation ps) ≡ k = (zip_at (AreSolvedBy k s) packets is_file.is.blocks generation ps bs is_file.is.solve low).full in
+    let here : get_or packets generation ps ≡ packets_of (get_or trace.bases.items generation no_trace).records.items = get_or-map packets_at trace.bases.items generation no_trace ps (omega (arith, legal.count)) in
+    let there : get_or (map blocks (range_with_len 0 count)) generation bs ≡ blocks generation = get_or-map-range_with_len blocks 0 count generation generation bs below (omega arith) in
+    let source = true_to generation below in
+    let all : All (IsTrueTo s (blocks generation)) (packets_of (get_or trace.bases.items generation no_trace).records.items) =
+    of_records recorded innovative (IsTrueTo s (blocks generation)) (equations_of contents) receivers contents.packets generation (get_or trace.bases.items generation no_trace) (legal.bases generation no_trace below) source.true_to in
+    subst (λ (b : List (List ℕ)). AreSolvedBy k s (get_or packets generation ps) b) (sym there)
+    (record {
+      full = full;
+      solves = record { count = source.count; vectors = source.vectors; true_to = subst (λ (l : List Packet). All (IsTrueTo s (blocks generation)) l) (sym here) all };
+    })) in
+    sym (is_file.only (source_file shape blocks) (record {
+      blocks = map blocks (range_with_len 0 count);
+      solve = solve;
+      file_is = ap (file_of shape) (joined_blocks blocks (range_with_len 0 count));
+    }))

@@ -1,74 +1,84 @@
 -- How the steps of `fetch` end: for its private functions.
 -- before, now: what a sink holds, where it tells that. Same: that the output is as it was. Unread, Unwritten, Unheld: that
--- the counts of the input's faults, of the output's faults and of the output's wants rose.
-use Rattle.std.specs.Prelude.{◌≡◌, ◌⊎◌, ℕ, Bool, true, false, List, Option, IfSome, Result}
-use Rattle.std.specs.Io.KnownBytes.{Appends, Keeps}
+-- the counts of the input's faults, of the output's faults and of the output's wants rose. Sound: that the bytes which were
+-- read have no fault.
+use Rattle.std.specs.Prelude.{◌≡◌, ◌⊎◌, ℕ, true, false, List, Option, IfSome, Result, Ok, Err}
+use Rattle.std.specs.Io.KnownBytes.{Keeps}
 use Rattle.linear_spec.specs.List.{ListValue}
-use Rattle.swarm_io.specs.Moved.{AppendsPrefix}
 use Rattle.packet_wire.specs.Stream.{Contents}
-use Rattle.avalanche_cli.specs.Fetch.{AppendsSome, Gives, GivesPrefix, GivesSome, HasOtherDigest, Holds, IsEmptyTrace, IsUnfetchable, LacksRank, receivers}
+use Rattle.avalanche_cli.specs.Delivery.{IsDelivered}
+use Rattle.avalanche_cli.specs.Fetch.{Gives, GivesPrefix, GivesSome, HasOtherDigest, Holds, IsTooLong, IsUnfetchable, LacksRank, stream_limit}
 use Rattle.avalanche_cli.specs.Reception.{IsJudged}
+use Rattle.avalanche_cli.specs.EmptyTrace.{IsEmptyTrace}
 use Rattle.avalanche_cli.specs.Trace.{IsLegalFetch}
+use Rattle.avalanche_cli.specs.declared.delivery.Delivery.{Delivery}
+use Rattle.avalanche_cli.specs.declared.delivery.Delivery.TheVariants as delivery
+use Rattle.avalanche_cli.specs.declared.reading.NoStream.{NoStream}
+use Rattle.avalanche_cli.specs.declared.reading.NoStream.TheVariants as no_stream
+use Rattle.avalanche_cli.specs.declared.reception.NoFile.{NoFile}
+use Rattle.avalanche_cli.specs.declared.reception.NoFile.TheVariants as no_file
+use Rattle.avalanche_cli.specs.declared.outcome.Outcome.{Outcome}
 use Rattle.avalanche_cli.specs.declared.trace.Trace.{Trace}
 use Rattle.avalanche_cli.specs.declared.end.End.{End}
-use Rattle.avalanche_cli.specs.declared.end.End.TheVariants.{Done, ReadFault, WriteFault, Incomplete, Mismatch, Memory, NotBuilt}
+use Rattle.avalanche_cli.specs.declared.end.End.TheVariants.{Done, Usage, ReadFault, WriteFault, TooLarge, BadStream, Incomplete, Mismatch, Memory}
 
--- the input is a first stream, its packets were received, and this is told of it
-pub record IsReceptionOf (input : Option (List ℕ)) (trace : Trace) (file : Result (ListValue ℕ) End) : Type 0 where
+-- ---- reading
+
+-- why an input gave no stream
+abbrev pub IsUnread : Option (List ℕ) → Type 0 → Type 0 → NoStream → Type 0
+IsUnread input Unread Sound no_stream.ReadFault = Unread × Sound
+IsUnread input Unread Sound no_stream.TooLarge = IfSome input IsTooLong
+IsUnread input Unread Sound (no_stream.BadStream fault) = IfSome input (λ bytes. IsUnfetchable bytes fault)
+IsUnread input Unread Sound no_stream.Memory = Unit {0}
+
+-- the end of a run whose input gave no stream
+abbrev pub end_of_reading : NoStream → End
+end_of_reading no_stream.ReadFault = ReadFault
+end_of_reading no_stream.TooLarge = TooLarge stream_limit
+end_of_reading (no_stream.BadStream fault) = BadStream fault
+end_of_reading no_stream.Memory = Memory
+
+-- ---- receiving
+
+-- the input is a stream, its packets were received, and this is told of them
+pub record IsReceptionOf (receivers : ℕ) (input : Option (List ℕ)) (trace : Trace) (file : Result (ListValue ℕ) NoFile) : Type 0 where
   pub contents : Contents
   pub holds : Holds input contents
   pub legal : IsLegalFetch receivers contents trace
   pub judged : IsJudged contents trace file
 
--- why no stream was received
-abbrev pub IsRefusal : Option (List ℕ) → Type 0 → End → Type 0
-IsRefusal input Unread Done = ⊥
-IsRefusal input Unread ReadFault = Unread
-IsRefusal input Unread WriteFault = ⊥
-IsRefusal input Unread (Incomplete generation rank) = ⊥
-IsRefusal input Unread (Mismatch found) = ⊥
-IsRefusal input Unread Memory = Unit {0}
-IsRefusal input Unread NotBuilt = IfSome input IsUnfetchable
+-- ---- writing
 
--- how writing the rest of a file ends
-abbrev pub IsRestWritten : List ℕ → Option (List ℕ) → Option (List ℕ) → Type 0 → Type 0 → End → Type 0
-IsRestWritten rest before now Unwritten Unheld Done = Appends before now rest
-IsRestWritten rest before now Unwritten Unheld ReadFault = ⊥
-IsRestWritten rest before now Unwritten Unheld WriteFault = AppendsPrefix before now rest × Unwritten
-IsRestWritten rest before now Unwritten Unheld (Incomplete generation rank) = ⊥
-IsRestWritten rest before now Unwritten Unheld (Mismatch found) = ⊥
-IsRestWritten rest before now Unwritten Unheld Memory = AppendsPrefix before now rest × Unheld
-IsRestWritten rest before now Unwritten Unheld NotBuilt = ⊥
+-- the outcome after a write: it has the trace, unless memory was wanted and the output took nothing
+abbrev pub IsAfterDelivery : Trace → Outcome → Delivery → Type 0
+IsAfterDelivery trace outcome delivery.Whole = (outcome.end ≡ Done) × (outcome.trace ≡ trace)
+IsAfterDelivery trace outcome delivery.Fault = (outcome.end ≡ WriteFault) × (outcome.trace ≡ trace)
+IsAfterDelivery trace outcome (delivery.Memory false) = (outcome.end ≡ Memory) × IsEmptyTrace outcome.trace
+IsAfterDelivery trace outcome (delivery.Memory true) = (outcome.end ≡ Memory) × (outcome.trace ≡ trace)
 
--- how writing a file ends, and whether the output took any of it
-abbrev pub IsWritten : List ℕ → Option (List ℕ) → Option (List ℕ) → Type 0 → Type 0 → Bool → End → Type 0
-IsWritten file before now Unwritten Unheld took Done = Appends before now file
-IsWritten file before now Unwritten Unheld took ReadFault = ⊥
-IsWritten file before now Unwritten Unheld took WriteFault = AppendsPrefix before now file × Unwritten
-IsWritten file before now Unwritten Unheld took (Incomplete generation rank) = ⊥
-IsWritten file before now Unwritten Unheld took (Mismatch found) = ⊥
-IsWritten file before now Unwritten Unheld false Memory = Keeps before now × Unheld
-IsWritten file before now Unwritten Unheld true Memory = AppendsSome before now file × Unheld
-IsWritten file before now Unwritten Unheld took NotBuilt = ⊥
+-- the outcome where there was no file to write
+abbrev pub IsAfterNoFile : Trace → Outcome → NoFile → Type 0
+IsAfterNoFile trace outcome (no_file.Incomplete generation rank) = (outcome.end ≡ Incomplete generation rank) × (outcome.trace ≡ trace)
+IsAfterNoFile trace outcome (no_file.Mismatch found) = (outcome.end ≡ Mismatch found) × (outcome.trace ≡ trace)
+IsAfterNoFile trace outcome no_file.Memory = (outcome.end ≡ Memory) × IsEmptyTrace outcome.trace
 
--- a trace is kept after this end, or it is empty since memory was wanted and the output took nothing
-abbrev pub IsKeptUnless : Trace → Trace → Bool → End → Type 0
-IsKeptUnless trace kept took Done = kept ≡ trace
-IsKeptUnless trace kept took ReadFault = kept ≡ trace
-IsKeptUnless trace kept took WriteFault = kept ≡ trace
-IsKeptUnless trace kept took (Incomplete generation rank) = kept ≡ trace
-IsKeptUnless trace kept took (Mismatch found) = kept ≡ trace
-IsKeptUnless trace kept false Memory = IsEmptyTrace kept
-IsKeptUnless trace kept true Memory = kept ≡ trace
-IsKeptUnless trace kept took NotBuilt = kept ≡ trace
+-- the outcome once packets were received
+abbrev pub IsFinished : Trace → Option (List ℕ) → Option (List ℕ) → Type 0 → Type 0 → Type 0 → Outcome → Result (ListValue ℕ) NoFile → Type 0
+IsFinished trace before now Same Unwritten Unheld outcome (Ok file) =
+    (ending : Delivery) × (IsDelivered file.items before now Unwritten Unheld ending × IsAfterDelivery trace outcome ending)
+IsFinished trace before now Same Unwritten Unheld outcome (Err reason) = Same × IsAfterNoFile trace outcome reason
+
+-- ---- the whole
 
 -- how a fetch ends
-abbrev pub IsEnd : Option (List ℕ) → Trace → Option (List ℕ) → Option (List ℕ) → Type 0 → Type 0 → Type 0 → Type 0 → End → Type 0
-IsEnd input trace before now Same Unread Unwritten Unheld Done = Gives input trace before now
-IsEnd input trace before now Same Unread Unwritten Unheld ReadFault = Same × Unread
-IsEnd input trace before now Same Unread Unwritten Unheld WriteFault = GivesPrefix input trace before now × Unwritten
-IsEnd input trace before now Same Unread Unwritten Unheld (Incomplete generation rank) = Same × ((generation ≡ 0) × LacksRank input rank)
-IsEnd input trace before now Same Unread Unwritten Unheld (Mismatch found) = Same × HasOtherDigest input trace found
-IsEnd input trace before now Same Unread Unwritten Unheld Memory =
-    (IsEmptyTrace trace × (Same ⊎ (Keeps before now × Unheld))) ⊎ (GivesSome input trace before now × Unheld)
-IsEnd input trace before now Same Unread Unwritten Unheld NotBuilt = Same × IfSome input IsUnfetchable
+abbrev pub IsEnd : ℕ → Option (List ℕ) → Trace → Option (List ℕ) → Option (List ℕ) → Type 0 → Type 0 → Type 0 → Type 0 → Type 0 → End → Type 0
+IsEnd receivers input trace before now Same Unread Sound Unwritten Unheld Done = Gives receivers input trace before now
+IsEnd receivers input trace before now Same Unread Sound Unwritten Unheld (Usage class) = ⊥
+IsEnd receivers input trace before now Same Unread Sound Unwritten Unheld ReadFault = Same × (Unread × Sound)
+IsEnd receivers input trace before now Same Unread Sound Unwritten Unheld WriteFault = GivesPrefix receivers input trace before now × Unwritten
+IsEnd receivers input trace before now Same Unread Sound Unwritten Unheld (TooLarge limit) = Same × ((limit ≡ stream_limit) × IfSome input IsTooLong)
+IsEnd receivers input trace before now Same Unread Sound Unwritten Unheld (BadStream fault) = Same × IfSome input (λ bytes. IsUnfetchable bytes fault)
+IsEnd receivers input trace before now Same Unread Sound Unwritten Unheld (Incomplete generation rank) = Same × LacksRank input generation rank
+IsEnd receivers input trace before now Same Unread Sound Unwritten Unheld (Mismatch found) = Same × HasOtherDigest receivers input trace found
+IsEnd receivers input trace before now Same Unread Sound Unwritten Unheld Memory =
+    (IsEmptyTrace trace × (Same ⊎ (Keeps before now × Unheld))) ⊎ (GivesSome receivers input trace before now × Unheld)

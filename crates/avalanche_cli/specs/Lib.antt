@@ -1,6 +1,15 @@
+pub mod Delivery
+pub mod EmptyTrace
 pub mod End
 pub mod Fetch
 pub mod FetchSteps
+pub mod Files
+pub mod Lines
+pub mod Packets
+pub mod Reading
 pub mod Receiving
 pub mod Reception
+pub mod Run
+pub mod RunSteps
+pub mod Seed
 pub mod Trace

@@ -1,70 +1,100 @@
--- What the steps of `fetch` know of a stream's packets once they are received: for its private functions.
-use Rattle.std.specs.Prelude.{◌≡◌, ◌≢◌, ◌<◌, ℕ, List, length, Result, Ok, Err}
+-- What the steps of a reception know of a stream's packets once they are received: for its private functions.
+-- bases: those of all generations, in order. packets: a list for each generation.
+use Rattle.std.specs.Prelude.{◌≡◌, ◌≢◌, ◌<◌, ℕ, List, ◌++◌, length, map, take, slice_index_or, Result, Ok, Err}
+use Rattle.std.specs.List.{All, flat_map}
 use Rattle.sha2.specs.Sha256.{sha256}
-use Rattle.linear_spec.specs.declared.packet.Packet.{Packet}
 use Rattle.linear_spec.specs.List.{ListValue}
+use Rattle.linear_spec.specs.declared.packet.Packet.{Packet}
 use Rattle.linear_spec.specs.Solving.{Solves}
-use Rattle.generation.specs.Shape.{Dimensions, symbols_per_block}
-use Rattle.generation.specs.Blocks.{file_of}
+use Rattle.linear_spec.specs.Symbols.{be_bytes_of}
+use Rattle.plain_basis.specs.Basis.{Basis}
+use Rattle.plain_basis.specs.Solutions.{IsOnlySolution}
+use Rattle.generation.specs.Shape.{Dimensions, IsShape, generations_of, symbols_per_block}
 use Rattle.packet_wire.specs.declared.manifest.Manifest.{Manifest}
 use Rattle.packet_wire.specs.Stream.{Contents}
-use Rattle.avalanche_cli.specs.Fetch.{HasPacketRank, IsFileOf}
+use Rattle.avalanche_cli.specs.Files.{IsFirstIncomplete, IsOnlyFileOf, SolveEach, recorded_packets}
+use Rattle.avalanche_cli.specs.Packets.{HasFullRank}
 use Rattle.avalanche_cli.specs.declared.trace.Trace.{Trace}
-use Rattle.avalanche_cli.specs.declared.end.End.{End}
-use Rattle.avalanche_cli.specs.declared.end.End.TheVariants.{Done, ReadFault, WriteFault, Incomplete, Mismatch, Memory, NotBuilt}
+use Rattle.avalanche_cli.specs.declared.reception.NoFile.{NoFile}
+use Rattle.avalanche_cli.specs.declared.reception.NoFile.TheVariants.{Incomplete, Mismatch, Memory}
 
--- the file of the only blocks that solve these records
-pub record IsSolvedFile (shape : Dimensions) (records : List Packet) (file : List ℕ) : Type 0 where
-  pub full : length records ≡ shape.k
-  pub blocks : List (List ℕ)
-  pub solve : Solves shape.k (symbols_per_block shape) records blocks
-  pub only : (others : List (List ℕ)) → Solves shape.k (symbols_per_block shape) records others → others ≡ blocks
-  pub file_is : file ≡ file_of shape blocks
-  pub length_is : length file ≡ shape.len
+-- ---- what is told of a stream
 
--- the file of these records has this digest, and the manifest says another
-pub record HasWrongDigest (manifest : Manifest) (records : List Packet) (found : List ℕ) : Type 0 where
-  pub file : List ℕ
-  pub is : IsSolvedFile manifest.shape records file
-  pub found_is : found ≡ sha256 file
-  pub differs : found ≢ manifest.digest
-
--- why the records give no file
-abbrev pub IsStop : Manifest → List Packet → End → Type 0
-IsStop manifest records Done = ⊥
-IsStop manifest records ReadFault = ⊥
-IsStop manifest records WriteFault = ⊥
-IsStop manifest records (Incomplete generation rank) = (generation ≡ 0) × (rank ≡ length records) × (rank < manifest.shape.k)
-IsStop manifest records (Mismatch found) = HasWrongDigest manifest records found
-IsStop manifest records Memory = Unit {0}
-IsStop manifest records NotBuilt = ⊥
-
--- the packets have full rank, and this is the file of the bases and no other is
-pub record IsOnlyFileOf (contents : Contents) (trace : Trace) (file : List ℕ) : Type 0 where
-  pub full : HasPacketRank contents contents.manifest.shape.k
-  pub is : IsFileOf contents.manifest.shape trace.bases.items file
-  pub only : (other : List ℕ) → IsFileOf contents.manifest.shape trace.bases.items other → other ≡ file
-  pub length_is : length file ≡ contents.manifest.shape.len
-
--- a file with the manifest's digest
-pub record IsGoodFile (contents : Contents) (trace : Trace) (file : List ℕ) : Type 0 where
-  pub is_file : IsOnlyFileOf contents trace file
+-- all generations have full rank, and the only file of the bases has the manifest's digest
+pub record HasGoodFile (contents : Contents) (trace : Trace) (file : List ℕ) : Type 0 where
+  pub full : HasFullRank contents
+  pub is_file : IsOnlyFileOf contents.manifest.shape (recorded_packets trace.bases.items) file
   pub digest : sha256 file ≡ contents.manifest.digest
 
--- a file with another digest, which is this
-pub record IsBadFile (contents : Contents) (trace : Trace) (found : List ℕ) : Type 0 where
+-- all generations have full rank, and the only file of the bases has this digest, which is not the manifest's
+pub record HasBadFile (contents : Contents) (trace : Trace) (found : List ℕ) : Type 0 where
+  pub full : HasFullRank contents
   pub file : List ℕ
-  pub is_file : IsOnlyFileOf contents trace file
+  pub is_file : IsOnlyFileOf contents.manifest.shape (recorded_packets trace.bases.items) file
   pub found_is : found ≡ sha256 file
   pub differs : found ≢ contents.manifest.digest
 
 -- what is told of a stream: its file, or why it gives none
-abbrev pub IsJudged : Contents → Trace → Result (ListValue ℕ) End → Type 0
-IsJudged contents trace (Ok file) = IsGoodFile contents trace file.items
-IsJudged contents trace (Err Done) = ⊥
-IsJudged contents trace (Err ReadFault) = ⊥
-IsJudged contents trace (Err WriteFault) = ⊥
-IsJudged contents trace (Err (Incomplete generation rank)) = (generation ≡ 0) × HasPacketRank contents rank × (rank < contents.manifest.shape.k)
-IsJudged contents trace (Err (Mismatch found)) = IsBadFile contents trace found
+abbrev pub IsJudged : Contents → Trace → Result (ListValue ℕ) NoFile → Type 0
+IsJudged contents trace (Ok file) = HasGoodFile contents trace file.items
+IsJudged contents trace (Err (Incomplete generation rank)) = IsFirstIncomplete contents generation rank
+IsJudged contents trace (Err (Mismatch found)) = HasBadFile contents trace found
 IsJudged contents trace (Err Memory) = Unit {0}
-IsJudged contents trace (Err NotBuilt) = ⊥
+
+-- ---- what the bases tell
+
+-- the packets that each basis recorded
+abbrev pub packets_in : List Basis → List (List Packet)
+packets_in bases = map (λ basis. basis.packets) bases
+
+-- a basis for each generation of the shape, for packets of its lengths
+pub record HaveShape (shape : Dimensions) (bases : List Basis) : Type 0 where
+  pub is_shape : IsShape shape
+  pub count : length bases ≡ generations_of shape
+  pub k : All (λ basis. basis.k ≡ shape.k) bases
+  pub s : All (λ basis. basis.s ≡ symbols_per_block shape) bases
+
+-- the basis has k records
+abbrev pub IsFull : ℕ → Basis → Type 0
+IsFull k basis = length basis.packets ≡ k
+
+-- the first basis that has fewer records than k, and their number
+pub record IsFirstLow (k : ℕ) (bases : List Basis) (generation rank : ℕ) : Type 0 where
+  pub below : generation < length bases
+  pub rank_is : (other : Basis) → rank ≡ length (slice_index_or bases generation other).packets
+  pub low : rank < k
+  pub full_before : All (IsFull k) (take generation bases)
+
+-- why not all bases are full
+abbrev pub IsShort : ℕ → List Basis → NoFile → Type 0
+IsShort k bases (Incomplete generation rank) = IsFirstLow k bases generation rank
+IsShort k bases (Mismatch found) = ⊥
+IsShort k bases Memory = ⊥
+
+-- to some bytes those of the only blocks that solve a basis were appended
+pub record AppendsSolution (basis : Basis) (before after : List ℕ) : Type 0 where
+  pub blocks : List (List ℕ)
+  pub solves : Solves basis.k basis.s basis.packets blocks
+  pub only : IsOnlySolution basis.k basis.s basis.packets blocks
+  pub appended : after ≡ before ++ flat_map be_bytes_of blocks
+
+-- the bytes of the only blocks that solve these packets
+pub record AreSolvedBytes (k s : ℕ) (packets : List (List Packet)) (bytes : List ℕ) : Type 0 where
+  pub blocks : List (List (List ℕ))
+  pub solve : SolveEach k s packets blocks
+  pub only : (others : List (List (List ℕ))) → SolveEach k s packets others → others ≡ blocks
+  pub bytes_are : bytes ≡ flat_map be_bytes_of (flat_map (λ generation. generation) blocks)
+
+-- all bases are full, and their only file has this digest, which is not the manifest's
+pub record HaveOtherDigest (manifest : Manifest) (bases : List Basis) (found : List ℕ) : Type 0 where
+  pub full : All (IsFull manifest.shape.k) bases
+  pub file : List ℕ
+  pub is_file : IsOnlyFileOf manifest.shape (packets_in bases) file
+  pub found_is : found ≡ sha256 file
+  pub differs : found ≢ manifest.digest
+
+-- why the bases give no file with the manifest's digest
+abbrev pub IsStop : Manifest → List Basis → NoFile → Type 0
+IsStop manifest bases (Incomplete generation rank) = IsFirstLow manifest.shape.k bases generation rank
+IsStop manifest bases (Mismatch found) = HaveOtherDigest manifest bases found
+IsStop manifest bases Memory = Unit {0}

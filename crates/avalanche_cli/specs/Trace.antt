@@ -10,8 +10,9 @@ use Rattle.basis_core.specs.declared.trace.CallerTrace.{CallerTrace}
 use Rattle.basis_core.specs.Calls.{KeptCall, KeptOffer, KeptDraw, call_of}
 use Rattle.basis_core.specs.Merge.{Given}
 use Rattle.basis_core.specs.Legal.{IsLegalHistory}
-use Rattle.generation.specs.Shape.{generations_of, symbols_per_block}
+use Rattle.generation.specs.Shape.{generations_of}
 use Rattle.packet_wire.specs.Stream.{Contents}
+use Rattle.avalanche_cli.specs.Packets.{equations_of}
 use Rattle.avalanche_cli.specs.declared.trace.Trace.{Trace}
 
 -- a packet with its index
@@ -57,14 +58,6 @@ pub record IsLegalBasis (equations : Equations) (receivers : ℕ) (packets : Lis
   pub listed : All (λ record'. record'.caller < receivers) basis.records.items
   pub offers : (number : ℕ) → number < receivers → AreOffersOf (dealt_to receivers number generation packets) (kept number)
   pub legal : IsLegalHistory equations (given_below receivers kept) basis.records.items
-
--- equations with no checks
-abbrev pub unchecked : ℕ → ℕ → ℕ → Equations
-unchecked k s generations = record { checks = 0; k = k; s = s; generations = generations; weights = []; sums = [] }
-
--- the equations of a stream whose ticket has no checks
-abbrev pub equations_of : Contents → Equations
-equations_of contents = unchecked contents.manifest.shape.k (symbols_per_block contents.manifest.shape) (generations_of contents.manifest.shape)
 
 -- the trace of a fetch: a basis for each generation, in order, and nothing was sent
 pub record IsLegalFetch (receivers : ℕ) (contents : Contents) (trace : Trace) : Type 0 where

@@ -1,27 +1,32 @@
 ghost use Rattle.std.specs.Prelude.{◌≡◌};
 ghost use Rattle.avalanche_cli.specs.End.{status_of};
 
+use avalanche_args::{ArgsError, WordClass};
 use gf16::Memory;
-use packet_wire::StreamError;
-use swarm_io::{ReadAllError, WriteAllError};
+use packet_wire::WireFault;
+use swarm_io::WriteAllError;
 
 /// How a run ended.
 #[derive(Clone, Copy, Debug, PartialEq, Eq)]
 pub enum End {
     /// The command did all that it does.
     Done,
+    /// The words ask for no command.
+    Usage(WordClass),
     /// Reading the input failed.
     ReadFault,
     /// Writing the output failed.
     WriteFault,
-    /// The packets of this generation do not determine its blocks: they have this rank.
+    /// The input has more bytes than this limit.
+    TooLarge { limit: u64 },
+    /// The input is no stream: its first fault.
+    BadStream(WireFault),
+    /// The passing packets of this generation do not determine its blocks: they have this rank.
     Incomplete { generation: u16, rank: u16 },
     /// The solved file has another digest than the manifest says: the one found.
     Mismatch { found: [u8; 32] },
     /// Memory was wanted and refused.
     Memory,
-    /// What was asked is not built yet.
-    NotBuilt,
 }
 
 impl End {
@@ -31,12 +36,14 @@ impl End {
     {
         match self {
             End::Done => 0,
+            End::Usage(_) => 1,
             End::ReadFault => 2,
             End::WriteFault => 3,
+            End::TooLarge { .. } => 4,
+            End::BadStream(_) => 5,
             End::Incomplete { .. } => 6,
             End::Mismatch { .. } => 7,
             End::Memory => 8,
-            End::NotBuilt => 9,
         }
     }
 }
@@ -52,31 +59,16 @@ impl From<Memory> for End {
     }
 }
 
-impl From<ReadAllError> for End {
+impl From<ArgsError> for End {
     ghost use Rattle.std.specs.Prelude.{◌≡◌};
-    ghost use Rattle.avalanche_cli.specs.End.{end_of_read};
+    ghost use Rattle.avalanche_cli.specs.End.{end_of_words};
 
-    ghost from_gives = { λ error end. end ≡ end_of_read error };
+    ghost from_gives = { λ error end. end ≡ end_of_words error };
 
-    fn from(error: ReadAllError) -> End {
+    fn from(error: ArgsError) -> End {
         match error {
-            ReadAllError::ReadFault => End::ReadFault,
-            ReadAllError::TooLarge => End::NotBuilt,
-            ReadAllError::Memory => End::Memory,
-        }
-    }
-}
-
-impl From<StreamError> for End {
-    ghost use Rattle.std.specs.Prelude.{◌≡◌};
-    ghost use Rattle.avalanche_cli.specs.End.{end_of_stream};
-
-    ghost from_gives = { λ error end. end ≡ end_of_stream error };
-
-    fn from(error: StreamError) -> End {
-        match error {
-            StreamError::Refused => End::NotBuilt,
-            StreamError::Memory => End::Memory,
+            ArgsError::Usage(class) => End::Usage(class),
+            ArgsError::Memory => End::Memory,
         }
     }
 }

@@ -1,22 +1,36 @@
-ghost use Rattle.std.specs.Prelude.{◌≡◌, ◌⊎◌, ◌+◌, ◌≤◌, ◌<◌, ◌↔◌, ℕ, List as list, IfSome, IsTrue};
+ghost use Rattle.std.specs.Prelude.{◌≡◌, ◌⊎◌, ◌≤◌, ◌<◌, ℕ, List as list, Err, IfSome, false, length};
 ghost use Rattle.std.specs.Io.KnownBytes.{Appends, IsAtEnd, Keeps};
 ghost use Rattle.sha2.specs.Sha256.{sha256};
 ghost use Rattle.swarm_io.specs.Counts.{Rose};
-ghost use Rattle.swarm_io.specs.Moved.{TakesAtMost};
-ghost use Rattle.generation.specs.Blocks.{file_of};
+ghost use Rattle.swarm_io.specs.Moved.{AppendsPrefix, TakesAtMost};
 ghost use Rattle.packet_wire.specs.Stream.{Contents};
-ghost use Rattle.avalanche_cli.specs.Fetch.{AreTrueTo, Gives, GivesPrefix, GivesSome, HasOtherDigest, HasPacketRank, IsEmptyTrace, IsFetch, IsFetchable, IsKept, IsUnfetchable, LacksRank, stream_limit};
+ghost use Rattle.packet_wire.specs.declared.fault.WireFault.{WireFault as wire_fault};
+ghost use Rattle.avalanche_args.specs.CommandOf.{command_of};
+ghost use Rattle.avalanche_args.specs.declared.command.SeedWords.{SeedWords};
+ghost use Rattle.avalanche_args.specs.declared.usage.WordClass.{WordClass as word_class};
+ghost use Rattle.avalanche_cli.specs.Files.{IsFirstIncomplete, source_file};
+ghost use Rattle.avalanche_cli.specs.Packets.{AreTrueTo, HasFullRank};
+ghost use Rattle.avalanche_cli.specs.EmptyTrace.{IsEmptyTrace};
+ghost use Rattle.avalanche_cli.specs.Fetch.{Gives, GivesPrefix, GivesSome, HasOtherDigest, HasReadSound, IsFetchable, IsTooLong, IsUnfetchable, LacksRank, stream_limit};
+ghost use Rattle.avalanche_cli.specs.Seed.{GivesStream, GivesStreamPrefix, IsSeedable, seed_limit, stream_of_seed};
+ghost use Rattle.avalanche_cli.specs.Lines.{line_of};
+ghost use Rattle.avalanche_cli.specs.Run.{IfFetch, IfSeed, IsFetchThat, IsKept, IsRefusal, most_read};
+ghost use Rattle.avalanche_cli.specs.RunSteps.{IsRun};
 
 use crate::fetch::fetch;
-use crate::{End, Outcome};
+use crate::line::write_line;
+use crate::seed::seed;
+use crate::{End, Outcome, laws};
+use avalanche_args::{Command, read_words};
 use linear_spec::Words;
 use std::alloc::Global;
 use std::thread::Threads;
 use swarm_io::{Sink, Source};
 
-/// Runs the command of the words: so far the one word `fetch`, which reads a stream and writes its file.
+/// Runs the command of the words: `seed` reads a file and writes its stream, `fetch` reads a stream and writes its file.
 ///
-/// `words` are those after the program's name. No thread is started so far, and `errors` gains nothing.
+/// `words` are those after the program's name. For every end but Done one line is written to `errors`; that it was refused
+/// changes nothing. No thread is started so far.
 pub fn run<R: Threads + Sync, I: Source, O: Sink, E: Sink>(
     _rt: &R,
     alloc: Global,
@@ -25,90 +39,143 @@ pub fn run<R: Threads + Sync, I: Source, O: Sink, E: Sink>(
     output: &mut O,
     errors: &mut E,
 ) -> Outcome
-    // Other words are not built, and read and write nothing.
-    ensures other_words { ¬ IsFetch words.now
-        → (result.end ≡ End.NotBuilt) × (input.new ≡ input.old) × (output.new ≡ output.old) }
+    // Usage: exactly where the words say no command. Nothing is read or written then.
+    ensures usage { (class : word_class) → result.end ≡ End.Usage class → command_of words.now ≡ Err class }
+    ensures no_command { (class : word_class) → command_of words.now ≡ Err class
+        → ((result.end ≡ End.Usage class) ⊎ (result.end ≡ End.Memory)) × (input.new ≡ input.old) × (output.new ≡ output.old) }
 
     // The calls on the bases, and their records.
-    ensures kept { IsKept result.end (I.remaining input.old) result.trace }
+    ensures kept { IsKept (command_of words.now) result.end (I.remaining input.old) result.trace }
 
-    // Done: the output gained the file of the bases, which has the digest that the manifest says.
-    ensures done { result.end ≡ End.Done
-        → Gives (I.remaining input.old) result.trace (O.contents output.old) (O.contents output.new) }
+    // Done: the whole input was read. A `seed` gave the stream of the file that it read; a `fetch` gave the file of the bases,
+    // which has the digest that the manifest says.
     ensures done_reads_all { result.end ≡ End.Done → IsAtEnd (I.remaining input.new) }
+    ensures done_of_seed { result.end ≡ End.Done → IfSeed (command_of words.now) (λ said.
+        GivesStream said (I.remaining input.old) (O.contents output.old) (O.contents output.new)) }
+    ensures done_of_fetch { result.end ≡ End.Done → IfFetch (command_of words.now) (λ said.
+        Gives said.receivers (I.remaining input.old) result.trace (O.contents output.old) (O.contents output.new)) }
 
-    // Mismatch: the file has another digest.
-    ensures mismatch { (found : list ℕ) → result.end ≡ End.Mismatch found
-        → HasOtherDigest (I.remaining input.old) result.trace found }
-
-    // A first stream of full rank gives one of these two ends, unless a fault came or memory was wanted.
-    ensures full_rank { IsFetch words.now → IfSome (I.remaining input.old) (λ bytes. (contents : Contents)
-        → IsFetchable bytes contents → HasPacketRank contents contents.manifest.shape.k
+    // A file within the limit is seeded, unless a fault came or memory was wanted.
+    ensures within_limit { IfSeed (command_of words.now) (λ said. IfSome (I.remaining input.old) (λ bytes. length bytes ≤ seed_limit said
         → ¬ Rose (I.faults input.old) (I.faults input.new) → ¬ Rose (O.faults output.old) (O.faults output.new)
-        → (result.end ≡ End.Done) ⊎ (((found : list ℕ) × (result.end ≡ End.Mismatch found)) ⊎ (result.end ≡ End.Memory))) }
+        → (result.end ≡ End.Done) ⊎ (result.end ≡ End.Memory))) }
 
-    // Where all its packets are true to the blocks of a file with the manifest's digest, it gives that file.
-    ensures true_packets { IsFetch words.now → IfSome (I.remaining input.old) (λ bytes. (contents : Contents) (blocks : list (list ℕ))
-        → IsFetchable bytes contents → HasPacketRank contents contents.manifest.shape.k → AreTrueTo contents blocks
-        → sha256 (file_of contents.manifest.shape blocks) ≡ contents.manifest.digest
+    // A stream of full rank gives Done or Mismatch, unless a fault came or memory was wanted.
+    ensures full_rank { IfFetch (command_of words.now) (λ said. IfSome (I.remaining input.old) (λ bytes. (contents : Contents)
+        → IsFetchable bytes contents → HasFullRank contents
         → ¬ Rose (I.faults input.old) (I.faults input.new) → ¬ Rose (O.faults output.old) (O.faults output.new)
-        → ((result.end ≡ End.Done) × Appends (O.contents output.old) (O.contents output.new) (file_of contents.manifest.shape blocks))
-        ⊎ (result.end ≡ End.Memory)) }
+        → (result.end ≡ End.Done) ⊎ (((found : list ℕ) × (result.end ≡ End.Mismatch found)) ⊎ (result.end ≡ End.Memory)))) }
 
-    // Incomplete: exactly where the packets' rank is too low, unless a fault came or memory was wanted.
+    // Where all its passing packets are true to the blocks of a file with the manifest's digest, it gives that file.
+    ensures true_packets { IfFetch (command_of words.now) (λ said. IfSome (I.remaining input.old) (λ bytes. (contents : Contents)
+        (blocks : ℕ → list (list ℕ)) (file : list ℕ)
+        → IsFetchable bytes contents → HasFullRank contents → AreTrueTo contents blocks
+        → file ≡ source_file contents.manifest.shape blocks
+        → sha256 file ≡ contents.manifest.digest
+        → ¬ Rose (I.faults input.old) (I.faults input.new) → ¬ Rose (O.faults output.old) (O.faults output.new)
+        → ((result.end ≡ End.Done) × Appends (O.contents output.old) (O.contents output.new) file) ⊎ (result.end ≡ End.Memory))) }
+
+    // So what a `seed` writes of a file, with its blocks, gives that file.
+    ensures seeded_stream { IfFetch (command_of words.now) (λ said. IfSome (I.remaining input.old) (λ bytes. (seed : SeedWords)
+        (file : list ℕ) → IsSeedable seed file → seed.bare ≡ false → bytes ≡ stream_of_seed seed file
+        → ¬ Rose (I.faults input.old) (I.faults input.new) → ¬ Rose (O.faults output.old) (O.faults output.new)
+        → ((result.end ≡ End.Done) × Appends (O.contents output.old) (O.contents output.new) file) ⊎ (result.end ≡ End.Memory))) }
+
+    // Mismatch: the file has another digest, which was found.
+    ensures mismatch { (found : list ℕ) → result.end ≡ End.Mismatch found → IsFetchThat (command_of words.now) (λ said.
+        HasOtherDigest said.receivers (I.remaining input.old) result.trace found) }
+
+    // Incomplete: exactly where a generation lacks rank, and with the first that does, unless a fault came or memory was wanted.
     ensures incomplete { (generation rank : ℕ) → result.end ≡ End.Incomplete generation rank
-        → (generation ≡ 0) × LacksRank (I.remaining input.old) rank }
-    ensures low_rank { IsFetch words.now → IfSome (I.remaining input.old) (λ bytes. (contents : Contents) (rank : ℕ)
-        → IsFetchable bytes contents → HasPacketRank contents rank → rank < contents.manifest.shape.k
+        → IsFetchThat (command_of words.now) (λ said. LacksRank (I.remaining input.old) generation rank) }
+    ensures low_rank { IfFetch (command_of words.now) (λ said. IfSome (I.remaining input.old) (λ bytes. (contents : Contents)
+        (generation rank : ℕ) → IsFetchable bytes contents → IsFirstIncomplete contents generation rank
         → ¬ Rose (I.faults input.old) (I.faults input.new)
-        → (result.end ≡ End.Incomplete 0 rank) ⊎ (result.end ≡ End.Memory)) }
+        → (result.end ≡ End.Incomplete generation rank) ⊎ (result.end ≡ End.Memory))) }
 
-    // NotBuilt: exactly where the input is no first stream within the limit, unless a fault came or memory was wanted.
-    ensures not_built { IsFetch words.now → result.end ≡ End.NotBuilt → IfSome (I.remaining input.old) IsUnfetchable }
-    ensures unfetchable { IsFetch words.now → IfSome (I.remaining input.old) (λ bytes. IsUnfetchable bytes
+    // BadStream: exactly where the input is no stream, and with its first fault, unless a read failed or memory was wanted.
+    ensures bad_stream { (fault : wire_fault) → result.end ≡ End.BadStream fault → IsFetchThat (command_of words.now) (λ said.
+        IfSome (I.remaining input.old) (λ bytes. IsUnfetchable bytes fault)) }
+    ensures unfetchable { IfFetch (command_of words.now) (λ said. IfSome (I.remaining input.old) (λ bytes. (fault : wire_fault)
+        → IsUnfetchable bytes fault → ¬ Rose (I.faults input.old) (I.faults input.new)
+        → (result.end ≡ End.BadStream fault) ⊎ (result.end ≡ End.Memory))) }
+
+    // TooLarge: exactly where the input goes beyond the limit, and, if it is to be a stream, has no fault up to there.
+    ensures too_large_of_seed { (limit : ℕ) → result.end ≡ End.TooLarge limit → IfSeed (command_of words.now) (λ said.
+        (limit ≡ seed_limit said) × IfSome (I.remaining input.old) (λ bytes. seed_limit said < length bytes)) }
+    ensures too_large_of_fetch { (limit : ℕ) → result.end ≡ End.TooLarge limit → IfFetch (command_of words.now) (λ said.
+        (limit ≡ stream_limit) × IfSome (I.remaining input.old) IsTooLong) }
+    ensures beyond_limit { IfSeed (command_of words.now) (λ said. IfSome (I.remaining input.old) (λ bytes. seed_limit said < length bytes
         → ¬ Rose (I.faults input.old) (I.faults input.new)
-        → (result.end ≡ End.NotBuilt) ⊎ (result.end ≡ End.Memory)) }
+        → (result.end ≡ End.TooLarge (seed_limit said)) ⊎ (result.end ≡ End.Memory))) }
+    ensures too_long { IfFetch (command_of words.now) (λ said. IfSome (I.remaining input.old) (λ bytes. IsTooLong bytes
+        → ¬ Rose (I.faults input.old) (I.faults input.new)
+        → (result.end ≡ End.TooLarge stream_limit) ⊎ (result.end ≡ End.Memory))) }
 
-    // Faults have their causes.
+    // Faults have their causes. What a `fetch` had read by then had no fault of its own.
     ensures read_fault { result.end ≡ End.ReadFault → Rose (I.faults input.old) (I.faults input.new) }
+    ensures read_fault_of_fetch { result.end ≡ End.ReadFault → IfFetch (command_of words.now) (λ said.
+        HasReadSound (I.remaining input.old) (I.remaining input.new)) }
     ensures write_fault { result.end ≡ End.WriteFault → Rose (O.faults output.old) (O.faults output.new) }
 
     // What each end but Done leaves.
-    ensures not_built_writes_nothing { result.end ≡ End.NotBuilt → output.new ≡ output.old }
-    ensures read_fault_writes_nothing { result.end ≡ End.ReadFault → output.new ≡ output.old }
-    ensures incomplete_writes_nothing { (generation rank : ℕ) → result.end ≡ End.Incomplete generation rank → output.new ≡ output.old }
-    ensures mismatch_writes_nothing { (found : list ℕ) → result.end ≡ End.Mismatch found → output.new ≡ output.old }
-    ensures write_fault_leaves_prefix { result.end ≡ End.WriteFault
-        → GivesPrefix (I.remaining input.old) result.trace (O.contents output.old) (O.contents output.new) }
-    ensures memory_leaves { result.end ≡ End.Memory
-        → (IsEmptyTrace result.trace × ((output.new ≡ output.old) ⊎ (Keeps (O.contents output.old) (O.contents output.new)
+    ensures refusal_writes_nothing { IsRefusal result.end → output.new ≡ output.old }
+    ensures write_fault_of_seed { result.end ≡ End.WriteFault → IfSeed (command_of words.now) (λ said.
+        GivesStreamPrefix said (I.remaining input.old) (O.contents output.old) (O.contents output.new)) }
+    ensures write_fault_of_fetch { result.end ≡ End.WriteFault → IfFetch (command_of words.now) (λ said.
+        GivesPrefix said.receivers (I.remaining input.old) result.trace (O.contents output.old) (O.contents output.new)) }
+    ensures memory_of_seed { result.end ≡ End.Memory → IfSeed (command_of words.now) (λ said. (output.new ≡ output.old)
+        ⊎ (GivesStreamPrefix said (I.remaining input.old) (O.contents output.old) (O.contents output.new)
+        × Rose (O.wants output.old) (O.wants output.new))) }
+    ensures memory_of_fetch { result.end ≡ End.Memory → IfFetch (command_of words.now) (λ said.
+        (IsEmptyTrace result.trace × ((output.new ≡ output.old) ⊎ (Keeps (O.contents output.old) (O.contents output.new)
         × Rose (O.wants output.old) (O.wants output.new))))
-        ⊎ (GivesSome (I.remaining input.old) result.trace (O.contents output.old) (O.contents output.new)
-        × Rose (O.wants output.old) (O.wants output.new)) }
+        ⊎ (GivesSome said.receivers (I.remaining input.old) result.trace (O.contents output.old) (O.contents output.new)
+        × Rose (O.wants output.old) (O.wants output.new))) }
 
-    // Counts never fall, and no more is read than the limit and one byte.
+    // Counts never fall, and no more is read than the command's limit and one byte.
     ensures input_faults { I.faults input.old ≤ I.faults input.new }
     ensures output_faults { O.faults output.old ≤ O.faults output.new }
     ensures output_wants { O.wants output.old ≤ O.wants output.new }
-    ensures taken { TakesAtMost (I.remaining input.old) (I.remaining input.new) (stream_limit + 1) }
+    ensures taken { TakesAtMost (I.remaining input.old) (I.remaining input.new) (most_read (command_of words.now)) }
 
-    ensures errors_untouched { errors.new ≡ errors.old }
+    // The line of the end, which is none for Done: a prefix of it, and all of it unless the sink refused.
+    ensures line { AppendsPrefix (E.contents errors.old) (E.contents errors.new) (line_of result.end) }
+    ensures whole_line { ¬ Rose (E.faults errors.old) (E.faults errors.new) → ¬ Rose (E.wants errors.old) (E.wants errors.new)
+        → Appends (E.contents errors.old) (E.contents errors.new) (line_of result.end) }
+    ensures no_line { result.end ≡ End.Done → errors.new ≡ errors.old }
+    ensures errors_faults { E.faults errors.old ≤ E.faults errors.new }
+    ensures errors_wants { E.wants errors.old ≤ E.wants errors.new }
 {
-    if !is_fetch(words) {
-        return Outcome::without_trace(alloc, End::NotBuilt);
-    }
-    let outcome = fetch(alloc, input, output);
-    linear_spec::laws::ranks();
-    basis_core::laws::callers();
+    let outcome = perform(alloc, words, input, output);
+    write_line(&outcome.end, errors);
+    packet_wire::laws::readings();
+    laws::incomplete();
+    laws::true_packets();
+    laws::seeded_streams();
     outcome
 }
 
-/// Whether the words are the one word `fetch`.
-fn is_fetch(words: &Words) -> bool
-    ensures { IsTrue result ↔ IsFetch words.now }
+/// Runs the command of the words, and tells nobody how it ended.
+fn perform<I: Source, O: Sink>(
+    alloc: Global,
+    words: &Words,
+    input: &mut I,
+    output: &mut O,
+) -> Outcome
+    ensures run { IsRun (I.remaining input.old) (I.remaining input.new) (O.contents output.old) (O.contents output.new)
+        (input.new ≡ input.old) (output.new ≡ output.old)
+        (Rose (I.faults input.old) (I.faults input.new)) (Rose (O.faults output.old) (O.faults output.new))
+        (Rose (O.wants output.old) (O.wants output.new)) result (command_of words.now) }
+    ensures done_reads_all { result.end ≡ End.Done → IsAtEnd (I.remaining input.new) }
+    ensures input_faults { I.faults input.old ≤ I.faults input.new }
+    ensures output_faults { O.faults output.old ≤ O.faults output.new }
+    ensures output_wants { O.wants output.old ≤ O.wants output.new }
+    ensures taken { TakesAtMost (I.remaining input.old) (I.remaining input.new) (most_read (command_of words.now)) }
 {
-    match words.get(0) {
-        Some(word) => word == "fetch" && words.len() == 1,
-        None => false,
+    match read_words(words) {
+        Ok(Command::Seed(said)) => Outcome::without_trace(alloc, seed(alloc, &said, input, output)),
+        Ok(Command::Fetch(said)) => fetch(alloc, &said, input, output),
+        Err(error) => Outcome::without_trace(alloc, End::from(error)),
     }
 }

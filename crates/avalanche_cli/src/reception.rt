@@ -1,96 +1,168 @@
 //! The packets of a stream, received in turn, and the file that they determine.
-ghost use Rattle.std.specs.Prelude.{◌≡◌, ◌≢◌, ◌<◌, ◌^◌, length, IfOk, IfErr};
+ghost use Rattle.std.specs.Prelude.{◌≡◌, ◌≢◌, ◌<◌, ◌≤◌, ◌^◌, length, take, IfOk, IfErr, OnOk};
 ghost use Rattle.std.specs.List.{All};
 ghost use Rattle.sha2.specs.Sha256.{sha256};
-ghost use Rattle.generation.specs.Shape.{generations_of, symbols_per_block};
-ghost use Rattle.packet_wire.specs.Stream.{IsPacket, contents_of};
-ghost use Rattle.avalanche_cli.specs.Fetch.{receivers};
-ghost use Rattle.avalanche_cli.specs.Reception.{IsJudged, IsSolvedFile, IsStop};
+ghost use Rattle.packet_wire.specs.Stream.{IsManifest, IsPacket, IsTicket};
+ghost use Rattle.avalanche_cli.specs.Files.{IsOnlyFileOf};
+ghost use Rattle.avalanche_cli.specs.Reception.{AppendsSolution, IsFull, IsJudged, IsShort, IsStop, HaveShape, packets_in};
 ghost use Rattle.avalanche_cli.specs.Trace.{IsLegalFetch};
 
+use crate::Trace;
 use crate::receivers::receive_all;
-use crate::{End, Trace};
-use generation::Shape;
+use digest_file::digest;
+use generation::{Shape, Ticket};
 use gf16::Memory;
-use linear_spec::List;
-use packet_wire::{Manifest, Stream};
+use linear_spec::{List, Packet};
+use packet_wire::Manifest;
 use plain_basis::PlainBasis;
-use sha2::{Digest, Sha256};
+use src_check::make_equations;
 use std::alloc::Global;
+
+/// Why a stream's packets give no file.
+#[derive(Clone, Copy, Debug, PartialEq, Eq)]
+pub(crate) enum NoFile {
+    /// The packets of this generation that pass do not determine its blocks: they have this rank. Those of each generation
+    /// before it do.
+    Incomplete { generation: u16, rank: u16 },
+    /// The file of the solved blocks has another digest than the manifest says: the one found.
+    Mismatch { found: [u8; 32] },
+    /// Memory was wanted and refused.
+    Memory,
+}
+
+impl From<Memory> for NoFile {
+    ghost use Rattle.std.specs.Prelude.{◌≡◌};
+    ghost use Rattle.avalanche_cli.specs.declared.reception.NoFile.TheVariants.{Memory as OutOfMemory};
+
+    ghost from_gives = { λ _ reason. reason ≡ OutOfMemory };
+
+    fn from(_want: Memory) -> NoFile {
+        NoFile::Memory
+    }
+}
 
 /// What receiving the packets of a stream gave: the calls and records, and the file with the manifest's digest, or why
 /// there is none.
 #[derive(Debug, Drop)]
 pub(crate) struct Reception {
     pub trace: Trace,
-    pub file: Result<List<u8>, End>,
+    pub file: Result<List<u8>, NoFile>,
 }
 
-/// Receives the packets of a first stream.
-pub(crate) fn receive(alloc: Global, stream: &Stream) -> Result<Reception, Memory>
-    requires generations { generations_of stream.now.manifest.shape ≡ 1 }
-    requires packets { All (IsPacket stream.now.manifest.shape) stream.now.packets.items }
-    requires few { length stream.now.packets.items < 2 ^ 32 }
-    ensures legal { IfOk result (λ r. IsLegalFetch receivers (contents_of stream.now) r.trace) }
-    ensures judged { IfOk result (λ r. IsJudged (contents_of stream.now) r.trace r.file) }
+/// Receives the packets of a stream, each on the basis of its generation, and solves its file.
+///
+/// Want of memory while packets are received is the error. While the file is solved it is the reason why there is none, and
+/// the trace is there.
+pub(crate) fn receive(
+    alloc: Global,
+    manifest: &Manifest,
+    ticket: &Ticket,
+    packets: &List<Packet>,
+    receivers: u32,
+) -> Result<Reception, Memory>
+    requires manifest { IsManifest manifest.now }
+    requires ticket { IsTicket manifest.now.shape ticket.now }
+    requires packets { All (IsPacket manifest.now.shape) packets.now.items }
+    requires few { length packets.now.items < 2 ^ 32 }
+    requires some { 1 ≤ receivers }
+    requires at_most { receivers ≤ 8 }
+    ensures legal { IfOk result (λ r. IsLegalFetch receivers
+        (record { manifest = manifest.now; ticket = ticket.now; packets = packets.now.items }) r.trace) }
+    ensures judged { IfOk result (λ r. IsJudged
+        (record { manifest = manifest.now; ticket = ticket.now; packets = packets.now.items }) r.trace r.file) }
 {
-    let shape = stream.manifest.shape;
-    let mut basis = PlainBasis::new(alloc, shape.k(), shape.symbols_per_block());
-    let received = receive_all(alloc, &mut basis, &stream.packets)?;
-    let file = solved(alloc, &stream.manifest, &basis);
+    let equations = make_equations(alloc, &manifest.shape, ticket)?;
+    let received = receive_all(alloc, &equations, packets, receivers)?;
+    let file = solved(alloc, manifest, &received.bases);
     linear_spec::laws::reception();
-    let mut bases = List::new(alloc);
-    bases.push(received)?;
     let trace = Trace {
-        bases,
+        bases: received.traces,
         sends: List::new(alloc),
     };
     Ok(Reception { trace, file })
 }
 
-/// The file of the records of a generation that is the whole file, where they solve and it has the manifest's digest.
-fn solved(alloc: Global, manifest: &Manifest, basis: &PlainBasis) -> Result<List<u8>, End>
-    requires k { basis.now.k ≡ manifest.now.shape.k }
-    requires s { basis.now.s ≡ symbols_per_block manifest.now.shape }
-    requires generations { generations_of manifest.now.shape ≡ 1 }
-    ensures file { IfOk result (λ file. IsSolvedFile manifest.now.shape basis.now.packets file.items) }
+/// The file of the records of all bases, where it has the manifest's digest.
+fn solved(alloc: Global, manifest: &Manifest, bases: &List<PlainBasis>) -> Result<List<u8>, NoFile>
+    requires { HaveShape manifest.now.shape bases.now.items }
+    ensures full { OnOk result (All (IsFull manifest.now.shape.k) bases.now.items) }
+    ensures file { IfOk result (λ file. IsOnlyFileOf manifest.now.shape (packets_in bases.now.items) file.items) }
     ensures digest { IfOk result (λ file. sha256 file.items ≡ manifest.now.digest) }
-    ensures stop { IfErr result (IsStop manifest.now basis.now.packets) }
+    ensures stop { IfErr result (IsStop manifest.now bases.now.items) }
+{
+    all_full(manifest.shape.k(), bases)?;
+    let file = joined(alloc, &manifest.shape, bases)?;
+    let found = digest(file.as_slice());
+    if found != manifest.digest {
+        return Err(NoFile::Mismatch { found });
+    }
+    Ok(file)
+}
+
+/// Tests whether each basis has as many records as a generation has blocks.
+fn all_full(k: u16, bases: &List<PlainBasis>) -> Result<(), NoFile>
+    requires k { All (λ basis. basis.k ≡ k) bases.now.items }
+    requires few { length bases.now.items ≤ 256 }
+    ensures full { OnOk result (All (IsFull k) bases.now.items) }
+    ensures short { IfErr result (IsShort k bases.now.items) }
+{
+    for (generation, basis) in bases.as_slice().iter().enumerate() {
+        let rank = rank_of(basis);
+        if rank < k {
+            return Err(NoFile::Incomplete {
+                generation: generation as u16,
+                rank,
+            });
+        }
+    }
+    Ok(())
+}
+
+/// The number of records, which is the rank of their coefficients.
+fn rank_of(basis: &PlainBasis) -> u16
+    ensures value { result ≡ length basis.now.packets }
+    ensures most { result ≤ basis.now.k }
 {
     linear_spec::laws::ranks();
     let _records = basis.records();
-    let rank = basis.rank();
-    if rank < manifest.shape.k() {
-        return Err(End::Incomplete {
-            generation: 0,
-            rank,
-        });
-    }
-    let file = joined(alloc, &manifest.shape, basis)?;
-    judged(file, &manifest.digest)
+    basis.rank()
 }
 
-/// The file of the blocks that solve as many records as there are blocks.
-fn joined(alloc: Global, shape: &Shape, basis: &PlainBasis) -> Result<List<u8>, Memory>
-    requires k { basis.now.k ≡ shape.now.k }
-    requires s { basis.now.s ≡ symbols_per_block shape.now }
-    requires generations { generations_of shape.now ≡ 1 }
-    requires full { length basis.now.packets ≡ shape.now.k }
-    ensures { IfOk result (λ file. IsSolvedFile shape.now basis.now.packets file.items) }
+/// The file of the blocks that solve the records of all bases, which are full.
+#[tactic(auto, unfolding(generation::specs::Blocks::file_of))]
+fn joined(alloc: Global, shape: &Shape, bases: &List<PlainBasis>) -> Result<List<u8>, Memory>
+    requires shape { HaveShape shape.now bases.now.items }
+    requires full { All (IsFull shape.now.k) bases.now.items }
+    ensures { IfOk result (λ file. IsOnlyFileOf shape.now (packets_in bases.now.items) file.items) }
+{
+    let len = shape.len() as usize;
+    let mut file = List::new(alloc);
+    file.reserve(len + usize::from(shape.k()) * usize::from(shape.block()))?;
+    for basis in bases.as_slice() {
+        append_solved(basis, &mut file)?;
+    }
+    cut(&mut file, len);
+    linear_spec::laws::bytes_spell_symbols();
+    Ok(file)
+}
+
+/// Appends the bytes of the blocks that solve a full basis.
+fn append_solved(basis: &PlainBasis, bytes: &mut List<u8>) -> Result<(), Memory>
+    requires { IsFull basis.now.k basis.now }
+    ensures { OnOk result (AppendsSolution basis.now bytes.old.items bytes.new.items) }
 {
     let blocks = basis.solve()?;
-    shape.join_blocks(alloc, &blocks)
+    for block in blocks.as_slice() {
+        block.append_be_bytes(bytes)?;
+    }
+    Ok(())
 }
 
-/// The file, where it has this digest.
-fn judged(file: List<u8>, digest: &[u8; 32]) -> Result<List<u8>, End>
-    ensures file { IfOk result (λ good. good.items ≡ file.items) }
-    ensures digest { IfOk result (λ good. sha256 good.items ≡ digest.now) }
-    ensures mismatch { IfErr result (λ end. (end ≡ End.Mismatch (sha256 file.items)) × (sha256 file.items ≢ digest.now)) }
+/// Drops the bytes past a length.
+fn cut(bytes: &mut List<u8>, len: usize)
+    ensures { bytes.new.items ≡ take len bytes.old.items }
 {
-    let found: [u8; 32] = Sha256::digest(file.as_slice());
-    if found != *digest {
-        return Err(End::Mismatch { found });
+    while bytes.len() > len {
+        let _past = bytes.pop();
     }
-    Ok(file)
 }

@@ -1,2 +1,3 @@
+pub mod DecodingLemmas
 pub mod Sums
 pub mod TurnLemmas

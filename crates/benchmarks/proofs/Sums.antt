@@ -1,5 +1,5 @@
 -- Sums place by place, and the sum of a list, as loops add them up.
-use Rattle.std.proofs.Common.{◌≡◌, ℕ, zero, suc, ◌+◌, ◌<◌, List, [], ◌∷◌, length, get_or, take, set, refl, ap, sym, ◌∙◌, arith, add-one}
+use Rattle.std.proofs.Common.{◌≡◌, ℕ, zero, suc, ◌+◌, ◌<◌, List, [], ◌∷◌, length, get_or, replicate, take, set, refl, ap, sym, ◌∙◌, arith, add-one}
 use Rattle.std.specs.Int.Bits.{xor_assoc, xor_zero_r}
 use Rattle.gf16.specs.Field.{sum_of, total_of}
 use Rattle.benchmarks.specs.Turns.{sums_of}
@@ -42,3 +42,7 @@ total_next (suc i) (x ∷ u) within =
 
 pub total_more : (i : ℕ) (u : List ℕ) → i < length u → sum_of (total_of (take i u)) (get_or u i 0) ≡ total_of (take (i + 1) u)
 total_more i u within = sym (total_next i u within) ∙ ap (λ k. total_of (take k u)) (sym (add-one i))
+
+pub total_zeros : (n : ℕ) → total_of (replicate n 0) ≡ 0
+total_zeros zero = refl
+total_zeros (suc n) = ap (sum_of 0) (total_zeros n)

@@ -1,4 +1,13 @@
+ghost use Rattle.std.specs.Prelude.{◌≤◌, length};
+
+use crate::decoding::Decoding;
+use crate::job::Job;
+use crate::tables::Tables;
 use crate::work::Work;
+use crate::zeros::Zeros;
+use gf16::Memory;
+use linear_spec::Words;
+use std::alloc::Global;
 use std::test::Fail;
 
 // The sums come from a Python script that multiplies polynomials without carries and divides by 0x1100B.
@@ -25,10 +34,99 @@ fn kernels_leave_the_sums_of_the_field(rt: HostRuntime) -> Result<(), Fail> {
     Ok(())
 }
 
+// The stream of a file of three bytes: a manifest, a ticket, two packets and an end.
+const ABC_STREAM: [u8; 143] =
+    *b"AVLN\x01\x01\x00\x00\x00\x2C\x00\x00\x00\x00\x00\x00\x00\x03\x00\x02\x00\x02\
+\xBA\x78\x16\xBF\x8F\x01\xCF\xEA\x41\x41\x40\xDE\x5D\xAE\x22\x23\xB0\x03\x61\xA3\x96\x17\x7A\x9C\xB4\x10\xFF\x61\xF2\x00\x15\xAD\
+AVLN\x01\x02\x00\x00\x00\x21\x00\x00\x00\x00\x00\x00\x00\x01\x00\x00\x00\x00\x00\x00\x00\x01\
+\x00\x00\x00\x00\x00\x00\x00\x00\x00\x00\x00\x00\x00\x00\x00\x00\x00\
+AVLN\x01\x03\x00\x00\x00\x08\x00\x00\x00\x01\x00\x00ab\
+AVLN\x01\x03\x00\x00\x00\x08\x00\x00\x00\x00\x00\x01c\x00\
+AVLN\x01\x04\x00\x00\x00\x00";
+
 #[test]
-fn other_words_name_no_work(rt: HostRuntime) {
-    assert!(rt; Work::named("add", "8", "66", "3").is_none());
-    assert!(rt; Work::named("dot", "7", "66", "3").is_none());
-    assert!(rt; Work::named("dot", "8", "-1", "3").is_none());
-    assert!(rt; Work::named("dot", "8", "66", "often").is_none());
+fn decodes_the_frames_of_a_stream(rt: HostRuntime) -> Result<(), Fail> {
+    for (piece, turns, frames) in [
+        ("1", "1", 5),
+        ("7", "3", 15),
+        ("143", "2", 10),
+        ("65536", "4", 20),
+    ] {
+        let decoding = Decoding::named(piece, turns).ok_or(piece)?;
+        let given = decoding.frames_given(rt.alloc(), &ABC_STREAM);
+        assert_eq!(rt; given, Ok(frames), "{piece} {turns}");
+        assert!(rt;
+            decoding
+                .frames_given(rt.alloc(), &ABC_STREAM[..142])
+                .is_err()
+        );
+    }
+    Ok(())
+}
+
+#[test]
+fn makes_the_words_of_tables(rt: HostRuntime) -> Result<(), Fail> {
+    let cases = [
+        ("2", "1", "1", "3", 60),
+        ("64", "512", "4", "2", 39_568),
+        ("64", "512", "4", "0", 0),
+    ];
+    for (k, s, passes, turns, words) in cases {
+        let tables = Tables::named(k, s, passes, turns).ok_or(k)?;
+        assert_eq!(rt;
+            tables.words_made(rt.alloc())?,
+            words,
+            "{k} {s} {passes} {turns}"
+        );
+    }
+    Ok(())
+}
+
+#[test]
+fn zeros_have_no_sum(rt: HostRuntime) -> Result<(), Fail> {
+    for (bytes, turns) in [("0", "1"), ("2", "1"), ("67", "3")] {
+        let zeros = Zeros::named(bytes, turns).ok_or(bytes)?;
+        assert_eq!(rt; zeros.sum_after(rt.alloc())?, 0, "{bytes} {turns}");
+    }
+    Ok(())
+}
+
+fn words_in(alloc: Global, line: &str) -> Result<Words, Memory> {
+    let mut words = Words::new(alloc);
+    for word in line.split_ascii_whitespace() {
+        words.push(word)?;
+    }
+    Ok(words)
+}
+
+#[test]
+fn words_name_jobs(rt: HostRuntime) -> Result<(), Fail> {
+    let cases = [
+        ("dot 8 66 3", true),
+        ("add 8 66 3", false),
+        ("dot 7 66 3", false),
+        ("dot 8 -1 3", false),
+        ("dot 8 66 often", false),
+        ("dot 8 66", false),
+        ("decode 65536 1", true),
+        ("decode 65537 1", false),
+        ("decode 0 1", false),
+        ("decode 1 0", false),
+        ("decode 1", false),
+        ("table 64 512 16 0", true),
+        ("table 65 512 4 1", false),
+        ("table 0 512 4 1", false),
+        ("table 64 512 17 1", false),
+        ("table 64 512 0 1", false),
+        ("table 64 512 4", false),
+        ("zeros 0 1", true),
+        ("zeros 2 0", false),
+        ("zeros 2 1 1", false),
+        ("", false),
+    ];
+    for (line, known) in cases {
+        let words = words_in(rt.alloc(), line)?;
+        assert_eq!(rt; Job::named(&words).is_some(), known, "{line}");
+    }
+    Ok(())
 }

@@ -95,7 +95,7 @@ fn take_turns<const LANES: usize>(kernel: Kernel, turns: u32, dst: &mut [u16], s
 }
 
 #[tactic(auto, using(crate::proofs::Sums::total_more))]
-fn total(symbols: &[u16]) -> u16
+pub fn total(symbols: &[u16]) -> u16
     ensures { result ≡ total_of symbols.now }
 {
     let mut sum = 0;

@@ -1,3 +1,8 @@
+pub mod Admitting
+pub mod Decoding
+pub mod Faults
 pub mod Frame
-pub mod Reading
+pub mod Frames
+pub mod Judgements
+pub mod Making
 pub mod Stream

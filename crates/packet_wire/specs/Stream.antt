@@ -8,7 +8,6 @@ use Rattle.linear_spec.specs.Symbols.{AreBytes, IsVector, be_bytes_of}
 use Rattle.generation.specs.declared.ticket.Ticket.{Ticket}
 use Rattle.generation.specs.Shape.{Dimensions, IsShape, generations_of, symbols_per_block}
 use Rattle.packet_wire.specs.declared.manifest.Manifest.{Manifest}
-use Rattle.packet_wire.specs.declared.stream.Stream.{Stream}
 use Rattle.packet_wire.specs.declared.frame.Kind.TheVariants as kinds
 use Rattle.packet_wire.specs.Frame.{frame, number_of}
 
@@ -68,14 +67,16 @@ pub record Contents : Type 0 where
   pub ticket : Ticket
   pub packets : List Packet
 
--- what a stream that was read holds
-abbrev pub contents_of : Stream → Contents
-contents_of stream = record { manifest = stream.manifest; ticket = stream.ticket; packets = stream.packets.items }
-
 -- the bytes of a stream: one frame after another
 unfoldable pub spelling_of : Contents → List ℕ
 spelling_of contents =
     manifest_frame contents.manifest ++ (ticket_frame contents.ticket ++ (flat_map packet_frame contents.packets ++ end_frame))
+
+-- what may stand in a stream: a manifest, and the ticket and the packets of its shape
+pub record AreContents (contents : Contents) : Type 0 where
+  pub manifest : IsManifest contents.manifest
+  pub ticket : IsTicket contents.manifest.shape contents.ticket
+  pub packets : All (IsPacket contents.manifest.shape) contents.packets
 
 -- the bytes are a stream with these contents
 pub record IsStream (bytes : List ℕ) (contents : Contents) : Type 0 where
@@ -83,9 +84,3 @@ pub record IsStream (bytes : List ℕ) (contents : Contents) : Type 0 where
   pub ticket : IsTicket contents.manifest.shape contents.ticket
   pub packets : All (IsPacket contents.manifest.shape) contents.packets
   pub spelled : bytes ≡ spelling_of contents
-
--- a stream of one generation with no checks
-pub record IsFirstStream (bytes : List ℕ) (contents : Contents) : Type 0 where
-  pub stream : IsStream bytes contents
-  pub generations : generations_of contents.manifest.shape ≡ 1
-  pub checks : contents.ticket.checks ≡ 0

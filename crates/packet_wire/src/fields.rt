@@ -1,24 +1,6 @@
-ghost use Rattle.std.specs.Prelude.{◌≡◌, length};
-ghost use Rattle.std.specs.Int.{w16, w64, to_be_bytes};
+ghost use Rattle.std.specs.Prelude.{◌≡◌, ◌≤◌, ◌+◌, length};
 ghost use Rattle.linear_spec.specs.Symbols.{AreBytes};
-
-/// The number that two bytes spell.
-pub(crate) fn number16(bytes: &[u8]) -> u16
-    requires { length bytes.now ≡ 2 }
-    ensures { to_be_bytes w16 result ≡ bytes.now }
-{
-    u16::from_be_bytes([bytes[0], bytes[1]])
-}
-
-/// The number that eight bytes spell.
-pub(crate) fn number64(bytes: &[u8]) -> u64
-    requires { length bytes.now ≡ 8 }
-    ensures { to_be_bytes w64 result ≡ bytes.now }
-{
-    u64::from_be_bytes([
-        bytes[0], bytes[1], bytes[2], bytes[3], bytes[4], bytes[5], bytes[6], bytes[7],
-    ])
-}
+ghost use Rattle.packet_wire.specs.Judgements.{number16_at as number16_of, number32_at as number32_of, number64_at as number64_of};
 
 /// The 32 bytes of a key or a digest.
 pub(crate) fn array32(bytes: &[u8]) -> [u8; 32]
@@ -29,4 +11,35 @@ pub(crate) fn array32(bytes: &[u8]) -> [u8; 32]
     let mut array = [0; 32];
     array.copy_from_slice(bytes);
     array
+}
+
+/// The number that two bytes from a place on spell.
+pub(crate) fn number16_at(bytes: &[u8], at: usize) -> u16
+    requires { at + 2 ≤ length bytes.now }
+    ensures { result ≡ number16_of bytes.now at }
+{
+    u16::from(bytes[at]) * 256 + u16::from(bytes[at + 1])
+}
+
+/// The number that four bytes from a place on spell.
+pub(crate) fn number32_at(bytes: &[u8], at: usize) -> u32
+    requires { at + 4 ≤ length bytes.now }
+    ensures { result ≡ number32_of bytes.now at }
+{
+    u32::from(number16_at(bytes, at)) * 65536 + u32::from(number16_at(bytes, at + 2))
+}
+
+/// The number that eight bytes from a place on spell.
+pub(crate) fn number64_at(bytes: &[u8], at: usize) -> u64
+    requires { at + 8 ≤ length bytes.now }
+    ensures { result ≡ number64_of bytes.now at }
+{
+    u64::from(number32_at(bytes, at)) * 4_294_967_296 + u64::from(number32_at(bytes, at + 4))
+}
+
+/// A law: each number of a slice of bytes is a byte, by its type.
+pub(crate) fn are_bytes(bytes: &[u8])
+    ensures { AreBytes bytes.now }
+{
+    let _len = bytes.len();
 }

@@ -1,5 +1,18 @@
-ghost use Rattle.std.specs.Prelude.{◌≡◌, ◌≢◌, ℕ, List, ◌++◌, length, MatchOption};
-ghost use Rattle.packet_wire.specs.Frame.{frame, head, number_of};
+ghost use Rattle.std.specs.Prelude.{◌≡◌};
+ghost use Rattle.packet_wire.specs.Frame.{head, number_of};
+
+use crate::Manifest;
+use generation::Ticket;
+use linear_spec::Packet;
+
+/// A frame of a stream.
+#[derive(Debug, Drop)]
+pub enum Frame {
+    Manifest(Manifest),
+    Ticket(Ticket),
+    Packet(Packet),
+    End,
+}
 
 /// What a frame holds.
 #[derive(Clone, Copy, Debug, PartialEq, Eq)]
@@ -17,29 +30,4 @@ pub(crate) fn head_of(kind: Kind, len: u32) -> [u8; 10]
 {
     let [a, b, c, d] = len.to_be_bytes();
     [b'A', b'V', b'L', b'N', 1, kind as u8, a, b, c, d]
-}
-
-/// The bytes after the head of a body of `len` bytes, where such a head stands at the front.
-fn after_head(kind: Kind, len: u32, bytes: &[u8]) -> Option<&[u8]>
-    ensures { MatchOption result
-        ((rest : List ℕ) → bytes.now ≢ head (number_of kind) len ++ rest)
-        (λ rest. bytes.now ≡ head (number_of kind) len ++ rest.now) }
-{
-    bytes.strip_prefix(&head_of(kind, len))
-}
-
-/// The body of `len` bytes of the frame of this kind that stands at the front, and the bytes after it, or `None`
-/// where no such frame does.
-#[tactic(auto, unfolding(crate::specs::Frame::frame))]
-pub(crate) fn frame_at(kind: Kind, len: u32, bytes: &[u8]) -> Option<(&[u8], &[u8])>
-    ensures { MatchOption result
-        ((body rest : List ℕ) → length body ≡ len → bytes.now ≢ frame (number_of kind) body ++ rest)
-        (λ found. (length found.0.now ≡ len) × (bytes.now ≡ frame (number_of kind) found.0.now ++ found.1.now)) }
-{
-    let rest = after_head(kind, len, bytes)?;
-    let len = len as usize;
-    if rest.len() < len {
-        return None;
-    }
-    Some(rest.split_at(len))
 }

@@ -1,5 +1,7 @@
 ghost use Rattle.std.specs.Prelude.{◌≡◌, length, IfOk};
 
+mod decoding;
+
 use super::*;
 use generation::Shape;
 use gf16::Memory;
@@ -39,56 +41,6 @@ fn is_packet(packet: &Packet, coeffs: &[u16], payload: &[u16]) -> bool {
     packet.generation == 0
         && packet.coeffs.as_slice() == coeffs
         && packet.payload.as_slice() == payload
-}
-
-#[test]
-fn reads_the_two_packets_of_abc(rt: HostRuntime) -> Result<(), Fail> {
-    let bytes = abc_stream(rt.alloc())?;
-    assert_eq!(rt; bytes.len(), 143);
-    let stream = read_stream(rt.alloc(), &bytes)
-        .ok()
-        .ok_or("the bytes are a stream")?;
-    assert_eq!(rt; stream.manifest.shape.len(), 3);
-    assert_eq!(rt; stream.manifest.digest[0], 0xba);
-    assert_eq!(rt; stream.ticket.checks, 0);
-    assert_eq!(rt; stream.packets.len(), 2);
-    let first = stream.packets.get(0).ok_or("a packet")?;
-    assert!(rt; is_packet(first, &[1, 0], &[0x6162]));
-    let second = stream.packets.get(1).ok_or("a packet")?;
-    assert!(rt; is_packet(second, &[0, 1], &[0x6300]));
-    Ok(())
-}
-
-#[test]
-fn refuses_what_is_no_first_stream(rt: HostRuntime) -> Result<(), Fail> {
-    let alloc = rt.alloc();
-    let bytes = abc_stream(alloc)?;
-    assert_eq!(rt; bytes.len(), 143);
-    // A byte of each kind of field, and another value.
-    let changes = [
-        (2, 0x58),
-        (4, 2),
-        (5, 9),
-        (5, 2),
-        (9, 0x2D),
-        (19, 0),
-        (96, 1),
-        (106, 0x0A),
-        (108, 1),
-        (138, 3),
-    ];
-    for (at, byte) in changes {
-        let mut changed = bytes.clone()?;
-        *changed.get_mut(at).ok_or("a byte")? = byte;
-        let refused = matches!(read_stream(alloc, &changed), Err(StreamError::Refused));
-        assert!(rt; refused, "byte {at}");
-    }
-    let shorter = bytes.get(..142).ok_or("142 bytes")?;
-    assert!(rt; matches!(read_stream(alloc, shorter), Err(StreamError::Refused)));
-    let mut longer = bytes;
-    longer.push(0)?;
-    assert!(rt; matches!(read_stream(alloc, &longer), Err(StreamError::Refused)));
-    Ok(())
 }
 
 fn packet(alloc: Global, coeffs: &[u16], payload: &[u16]) -> Result<Packet, Memory>
@@ -170,39 +122,5 @@ fn writes_a_ticket_of_eight_checks(rt: HostRuntime) -> Result<(), Fail> {
         8, 0, 1, 2, 3, 4, 5, 6, 7, 8, 9, 0x0A, 0x0B, 0x0C, 0x0D, 0xFF, 0xFE,
     ];
     assert_eq!(rt; body, expected.as_slice());
-    Ok(())
-}
-
-// K is 64 and B is 4096, so a packet's frame has 4236 bytes.
-#[test]
-fn reads_the_largest_packet_as_it_was_written(rt: HostRuntime) -> Result<(), Fail> {
-    let alloc = rt.alloc();
-    let shape = Shape::new(262_144, 64, 4096).ok().ok_or("a shape")?;
-    let digest = [0xD1; 32];
-    let key = [0x5A; 32];
-    let sums = SymVec::zeros(alloc, 0)?;
-    let ticket = Ticket {
-        key,
-        checks: 0,
-        sums,
-    };
-    let mut coeffs = [0x0102; 64];
-    coeffs[63] = 0x8001;
-    let mut payload = [0xFFFE; 2048];
-    payload[2047] = 7;
-    let mut out = List::new(alloc);
-    write_manifest(&Manifest { shape, digest }, &mut out)?;
-    write_ticket(&ticket, &mut out)?;
-    write_packet(&packet(alloc, &coeffs, &payload)?, &mut out)?;
-    assert_eq!(rt; out.len(), 54 + 43 + 4236);
-    write_end(&mut out)?;
-    let stream = read_stream(alloc, out.as_slice())
-        .ok()
-        .ok_or("the bytes are a stream")?;
-    assert_eq!(rt; stream.manifest, Manifest { shape, digest });
-    assert_eq!(rt; stream.ticket.key, key);
-    assert_eq!(rt; stream.packets.len(), 1);
-    let read = stream.packets.get(0).ok_or("a packet")?;
-    assert!(rt; is_packet(read, &coeffs, &payload));
     Ok(())
 }

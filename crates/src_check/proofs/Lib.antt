@@ -2,4 +2,5 @@ pub mod BlockLists
 pub mod Places
 pub mod Sums
 pub mod TrueLaws
+pub mod VectorLaws
 pub mod WeightCounts

@@ -19,9 +19,9 @@ returns-in_err-matches-clause-usage c =
 pub returns-in-Ok-clause-ok : goal.returns-in-Ok-clause-ok
 returns-in-Ok-clause-ok c =
     let texts = ap (map (λ (text : Bor (List ℕ)). text.now)) c.as_slice.ensures.value ∙ c.in_ok-texts.ensures in
-    taken_words c.args.words.now _ c.in-Some.first.now c.in-Some-named.command texts (sym c.in-Some.ensures.value) (sym c.in-Some-named.ensures) c.in_ok-matches.matches _ c.in_ok-matches.ensures c.in-Ok.ensures
+    taken_words c.args.words.now _ c.in-Some.first.now c.in-Some-named.command texts (sym c.in-Some.ensures.value) (sym c.in-Some-named.ensures) c.in_ok-matches.matches _ c.in_ok-matches.ensures c.in-Ok.ensures.value
 
 pub returns-clause-usage : goal.returns-clause-usage
 returns-clause-usage c =
     let texts = ap (map (λ (text : Bor (List ℕ)). text.now)) c.as_slice.ensures.value ∙ c.in_ok-texts.ensures in
-    taken_words c.args.words.now _ c.in-Some.first.now c.in-Some-named.command texts (sym c.in-Some.ensures.value) (sym c.in-Some-named.ensures) c.in_ok-matches.matches _ c.in_ok-matches.ensures c.in-Err.ensures
+    taken_words c.args.words.now _ c.in-Some.first.now c.in-Some-named.command texts (sym c.in-Some.ensures.value) (sym c.in-Some-named.ensures) c.in_ok-matches.matches _ c.in_ok-matches.ensures c.in-Err.ensures.value

@@ -1,0 +1,187 @@
+-- What the end of the command of the words tells of a run: one lemma for each clause of `run` that does not speak of what
+-- must come.
+-- said: what the words say. is: how the run ended.
+use Rattle.std.proofs.Common.{◌≡◌, ◌⊎◌, inl, inr, ℕ, List, sym, subst, ap, ◌∙◌}
+use Rattle.std.specs.Prelude.{Option, Result, Ok, Err, IfSome, length, ◌<◌}
+use Rattle.std.specs.Io.KnownBytes.{Keeps}
+use Rattle.packet_wire.specs.declared.fault.WireFault.{WireFault}
+use Rattle.avalanche_args.specs.declared.command.Command.{Command}
+use Rattle.avalanche_args.specs.declared.command.Command.TheVariants.{Seed, Fetch}
+use Rattle.avalanche_args.specs.declared.command.FetchWords.{FetchWords}
+use Rattle.avalanche_args.specs.declared.command.SeedWords.{SeedWords}
+use Rattle.avalanche_args.specs.declared.usage.WordClass.{WordClass}
+use Rattle.avalanche_cli.specs.EmptyTrace.{IsEmptyTrace}
+use Rattle.avalanche_cli.specs.Fetch.{Gives, GivesPrefix, GivesSome, HasOtherDigest, HasReadSound, IsTooLong, IsUnfetchable, LacksRank, stream_limit}
+use Rattle.avalanche_cli.specs.FetchSteps.{IsEnd}
+use Rattle.avalanche_cli.specs.Run.{IfFetch, IfSeed, IsFetchThat, IsKept, IsKeptFetch, IsRefusal}
+use Rattle.avalanche_cli.specs.RunSteps.{IsRefused, IsRun}
+use Rattle.avalanche_cli.specs.Seed.{GivesStream, GivesStreamPrefix, IsSeedEnd, seed_limit}
+use Rattle.avalanche_cli.specs.declared.outcome.Outcome.{Outcome}
+use Rattle.avalanche_cli.specs.declared.end.End.{End}
+use Rattle.avalanche_cli.specs.declared.end.End.TheVariants.{Done, Usage, ReadFault, WriteFault, TooLarge, BadStream, Incomplete, Mismatch, Memory}
+
+module _ (old new before now : Option (List ℕ)) (Unmoved Same Unread Unwritten Unheld : Type 0) (outcome : Outcome) where
+  abbrev Ran : Result Command WordClass → Type 0
+  Ran said = IsRun old new before now Unmoved Same Unread Unwritten Unheld outcome said
+
+  abbrev Seeded : SeedWords → End → Type 0
+  Seeded words end = IsSeedEnd words old before now Same Unread Unwritten Unheld end
+
+  abbrev Fetched : FetchWords → End → Type 0
+  Fetched words end = IsEnd words.receivers old outcome.trace before now Same Unread (HasReadSound old new) Unwritten Unheld end
+
+  -- the end that it is
+  seeded : (words : SeedWords) (end : End) → Ran (Ok (Seed words)) → outcome.end ≡ end → Seeded words end
+  seeded words end is at = subst (λ (e : End). Seeded words e) at is.1
+
+  fetched : (words : FetchWords) (end : End) → Ran (Ok (Fetch words)) → outcome.end ≡ end → Fetched words end
+  fetched words end is at = subst (λ (e : End). Fetched words e) at is.1
+
+  -- words that say no command end in two ways
+  neither : (class : WordClass) (end : End) → (outcome.end ≡ Usage class) ⊎ (outcome.end ≡ Memory) → outcome.end ≡ end → (Usage class ≡ end → ⊥) → (Memory ≡ end → ⊥) → ⊥
+  neither class end (inl usage) at no_usage no_memory = no_usage (sym usage ∙ at)
+  neither class end (inr memory) at no_usage no_memory = no_memory (sym memory ∙ at)
+
+  -- ---- the words
+
+  usage_of : (class given : WordClass) → (outcome.end ≡ Usage given) ⊎ (outcome.end ≡ Memory) → outcome.end ≡ Usage class → given ≡ class
+  usage_of class given (inl usage) at = let same : Usage given ≡ Usage class = sym usage ∙ at in cc
+  usage_of class given (inr memory) at = let same : Memory ≡ Usage class = sym memory ∙ at in absurd cc
+
+  pub usage : (said : Result Command WordClass) (class : WordClass) → Ran said → outcome.end ≡ Usage class → said ≡ Err class
+  usage (Ok (Seed words)) class is at = absurd (seeded words (Usage class) is at)
+  usage (Ok (Fetch words)) class is at = absurd (fetched words (Usage class) is at)
+  usage (Err given) class is at = ap Err (usage_of class given is.end at)
+
+  pub no_command : (said : Result Command WordClass) (class : WordClass) → Ran said → said ≡ Err class → ((outcome.end ≡ Usage class) ⊎ (outcome.end ≡ Memory)) × Unmoved × Same
+  no_command said class is at = let refused : IsRefused Unmoved Same outcome class = subst Ran at is in (refused.end, refused.input, refused.output)
+
+  pub kept : (said : Result Command WordClass) → Ran said → IsKept said outcome.end old outcome.trace
+  kept (Ok (Seed words)) is = is.0
+  kept (Ok (Fetch words)) is = is.0
+  kept (Err class) is = is.trace
+
+  -- ---- Done
+
+  pub done_of_seed : (said : Result Command WordClass) → Ran said → outcome.end ≡ Done → IfSeed said (λ words. GivesStream words old before now)
+  done_of_seed (Ok (Seed words)) is at = seeded words Done is at
+  done_of_seed (Ok (Fetch words)) is at = tt
+  done_of_seed (Err class) is at = tt
+
+  pub done_of_fetch : (said : Result Command WordClass) → Ran said → outcome.end ≡ Done → IfFetch said (λ words. Gives words.receivers old outcome.trace before now)
+  done_of_fetch (Ok (Seed words)) is at = tt
+  done_of_fetch (Ok (Fetch words)) is at = fetched words Done is at
+  done_of_fetch (Err class) is at = tt
+
+  -- ---- ends that only a fetch has
+
+  pub mismatch : (said : Result Command WordClass) (found : List ℕ) → Ran said → outcome.end ≡ Mismatch found → IsFetchThat said (λ words. HasOtherDigest words.receivers old outcome.trace found)
+  mismatch (Ok (Seed words)) found is at = absurd (seeded words (Mismatch found) is at)
+  mismatch (Ok (Fetch words)) found is at = (fetched words (Mismatch found) is at).1
+  mismatch (Err class) found is at = absurd (neither class (Mismatch found) is.end at (λ e. absurd cc) (λ e. absurd cc))
+
+  pub incomplete : (said : Result Command WordClass) (generation rank : ℕ) → Ran said → outcome.end ≡ Incomplete generation rank → IsFetchThat said (λ words. LacksRank old generation rank)
+  incomplete (Ok (Seed words)) generation rank is at = absurd (seeded words (Incomplete generation rank) is at)
+  incomplete (Ok (Fetch words)) generation rank is at = (fetched words (Incomplete generation rank) is at).1
+  incomplete (Err class) generation rank is at = absurd (neither class (Incomplete generation rank) is.end at (λ e. absurd cc) (λ e. absurd cc))
+
+  pub bad_stream : (said : Result Command WordClass) (fault : WireFault) → Ran said → outcome.end ≡ BadStream fault → IsFetchThat said (λ words. IfSome old (λ bytes. IsUnfetchable bytes fault))
+  bad_stream (Ok (Seed words)) fault is at = absurd (seeded words (BadStream fault) is at)
+  bad_stream (Ok (Fetch words)) fault is at = (fetched words (BadStream fault) is at).1
+  bad_stream (Err class) fault is at = absurd (neither class (BadStream fault) is.end at (λ e. absurd cc) (λ e. absurd cc))
+
+  -- ---- inputs that are too large
+
+  pub too_large_of_seed : (said : Result Command WordClass) (limit : ℕ) → Ran said → outcome.end ≡ TooLarge limit → IfSeed said (λ words. (limit ≡ seed_limit words) × IfSome old (λ bytes. seed_limit words < length bytes))
+  too_large_of_seed (Ok (Seed words)) limit is at = (seeded words (TooLarge limit) is at).1
+  too_large_of_seed (Ok (Fetch words)) limit is at = tt
+  too_large_of_seed (Err class) limit is at = tt
+
+  pub too_large_of_fetch : (said : Result Command WordClass) (limit : ℕ) → Ran said → outcome.end ≡ TooLarge limit → IfFetch said (λ words. (limit ≡ stream_limit) × IfSome old IsTooLong)
+  too_large_of_fetch (Ok (Seed words)) limit is at = tt
+  too_large_of_fetch (Ok (Fetch words)) limit is at = (fetched words (TooLarge limit) is at).1
+  too_large_of_fetch (Err class) limit is at = tt
+
+  -- ---- faults
+
+  pub read_fault : (said : Result Command WordClass) → Ran said → outcome.end ≡ ReadFault → Unread
+  read_fault (Ok (Seed words)) is at = (seeded words ReadFault is at).1
+  read_fault (Ok (Fetch words)) is at = (fetched words ReadFault is at).1.0
+  read_fault (Err class) is at = absurd (neither class ReadFault is.end at (λ e. absurd cc) (λ e. absurd cc))
+
+  pub read_fault_of_fetch : (said : Result Command WordClass) → Ran said → outcome.end ≡ ReadFault → IfFetch said (λ words. HasReadSound old new)
+  read_fault_of_fetch (Ok (Seed words)) is at = tt
+  read_fault_of_fetch (Ok (Fetch words)) is at = (fetched words ReadFault is at).1.1
+  read_fault_of_fetch (Err class) is at = tt
+
+  pub write_fault : (said : Result Command WordClass) → Ran said → outcome.end ≡ WriteFault → Unwritten
+  write_fault (Ok (Seed words)) is at = (seeded words WriteFault is at).1
+  write_fault (Ok (Fetch words)) is at = (fetched words WriteFault is at).1
+  write_fault (Err class) is at = absurd (neither class WriteFault is.end at (λ e. absurd cc) (λ e. absurd cc))
+
+  -- ---- what is left
+
+  refused_seed : (words : SeedWords) (end : End) → Seeded words end → IsRefusal end → Same
+  refused_seed words Done is early = absurd early
+  refused_seed words (Usage class) is early = absurd is
+  refused_seed words ReadFault is early = is.0
+  refused_seed words WriteFault is early = absurd early
+  refused_seed words (TooLarge limit) is early = is.0
+  refused_seed words (BadStream fault) is early = absurd is
+  refused_seed words (Incomplete generation rank) is early = absurd is
+  refused_seed words (Mismatch found) is early = absurd is
+  refused_seed words Memory is early = absurd early
+
+  refused_fetch : (words : FetchWords) (end : End) → Fetched words end → IsRefusal end → Same
+  refused_fetch words Done is early = absurd early
+  refused_fetch words (Usage class) is early = absurd is
+  refused_fetch words ReadFault is early = is.0
+  refused_fetch words WriteFault is early = absurd early
+  refused_fetch words (TooLarge limit) is early = is.0
+  refused_fetch words (BadStream fault) is early = is.0
+  refused_fetch words (Incomplete generation rank) is early = is.0
+  refused_fetch words (Mismatch found) is early = is.0
+  refused_fetch words Memory is early = absurd early
+
+  pub refusal_writes_nothing : (said : Result Command WordClass) → Ran said → IsRefusal outcome.end → Same
+  refusal_writes_nothing (Ok (Seed words)) is early = refused_seed words outcome.end is.1 early
+  refusal_writes_nothing (Ok (Fetch words)) is early = refused_fetch words outcome.end is.1 early
+  refusal_writes_nothing (Err class) is early = is.output
+
+  pub write_fault_of_seed : (said : Result Command WordClass) → Ran said → outcome.end ≡ WriteFault → IfSeed said (λ words. GivesStreamPrefix words old before now)
+  write_fault_of_seed (Ok (Seed words)) is at = (seeded words WriteFault is at).0
+  write_fault_of_seed (Ok (Fetch words)) is at = tt
+  write_fault_of_seed (Err class) is at = tt
+
+  pub write_fault_of_fetch : (said : Result Command WordClass) → Ran said → outcome.end ≡ WriteFault → IfFetch said (λ words. GivesPrefix words.receivers old outcome.trace before now)
+  write_fault_of_fetch (Ok (Seed words)) is at = tt
+  write_fault_of_fetch (Ok (Fetch words)) is at = (fetched words WriteFault is at).0
+  write_fault_of_fetch (Err class) is at = tt
+
+  pub memory_of_seed : (said : Result Command WordClass) → Ran said → outcome.end ≡ Memory → IfSeed said (λ words. Same ⊎ (GivesStreamPrefix words old before now × Unheld))
+  memory_of_seed (Ok (Seed words)) is at = seeded words Memory is at
+  memory_of_seed (Ok (Fetch words)) is at = tt
+  memory_of_seed (Err class) is at = tt
+
+  pub memory_of_fetch : (said : Result Command WordClass) → Ran said → outcome.end ≡ Memory → IfFetch said (λ words. (IsEmptyTrace outcome.trace × (Same ⊎ (Keeps before now × Unheld))) ⊎ (GivesSome words.receivers old outcome.trace before now × Unheld))
+  memory_of_fetch (Ok (Seed words)) is at = tt
+  memory_of_fetch (Ok (Fetch words)) is at = fetched words Memory is at
+  memory_of_fetch (Err class) is at = tt
+
+  -- ---- how the steps make it
+
+  pub ran_seed : (said : Result Command WordClass) (words : SeedWords) → said ≡ Ok (Seed words) → IsEmptyTrace outcome.trace → Seeded words outcome.end → Ran said
+  ran_seed said words says empty end = subst Ran (sym says) (empty, end)
+
+  pub ran_fetch : (said : Result Command WordClass) (words : FetchWords) → said ≡ Ok (Fetch words) → IsKeptFetch words.receivers outcome.end old outcome.trace → Fetched words outcome.end → Ran said
+  ran_fetch said words says keeps end = subst Ran (sym says) (keeps, end)
+
+  pub ran_nothing : (said : Result Command WordClass) (class : WordClass) → said ≡ Err class → outcome.end ≡ Usage class → Unmoved → Same → IsEmptyTrace outcome.trace → Ran said
+  ran_nothing said class says at unmoved same empty = subst Ran (sym says) (record { end = inl at; input = unmoved; output = same; trace = empty })
+
+  -- memory was wanted for the words
+  pub ran_out : (said : Result Command WordClass) → outcome.end ≡ Memory → Unmoved → Same → IsEmptyTrace outcome.trace → Ran said
+  ran_out (Ok (Seed words)) at unmoved same empty = (empty, subst (λ (e : End). Seeded words e) (sym at) (inl same))
+  ran_out (Ok (Fetch words)) at unmoved same empty =
+      (subst (λ (e : End). IsKeptFetch words.receivers e old outcome.trace) (sym at) (inl empty), subst (λ (e : End). Fetched words e) (sym at) (inl (empty, inl same)))
+  ran_out (Err class) at unmoved same empty = record { end = inr at; input = unmoved; output = same; trace = empty }

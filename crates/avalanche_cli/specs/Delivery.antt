@@ -1,0 +1,24 @@
+-- How writing a file ended: for the private functions that write.
+-- before, now: what a sink holds, where it tells that. Unwritten, Unheld: that the counts of its faults and of its wants rose.
+use Rattle.std.specs.Prelude.{ℕ, ◌<◌, ◌≤◌, true, false, List, Option, length, take}
+use Rattle.std.specs.Io.KnownBytes.{Appends, Keeps}
+use Rattle.swarm_io.specs.Moved.{AppendsPrefix}
+use Rattle.avalanche_cli.specs.declared.delivery.Delivery.{Delivery}
+use Rattle.avalanche_cli.specs.declared.delivery.Delivery.TheVariants.{Whole, Fault, Memory}
+
+-- told bytes grow by a prefix of these that is not empty
+abbrev pub AppendsSome : Option (List ℕ) → Option (List ℕ) → List ℕ → Type 0
+AppendsSome old new bytes = (n : ℕ) × ((0 < n) × ((n ≤ length bytes) × Appends old new (take n bytes)))
+
+abbrev pub IsDelivered : List ℕ → Option (List ℕ) → Option (List ℕ) → Type 0 → Type 0 → Delivery → Type 0
+IsDelivered file before now Unwritten Unheld Whole = Appends before now file
+IsDelivered file before now Unwritten Unheld Fault = AppendsPrefix before now file × Unwritten
+IsDelivered file before now Unwritten Unheld (Memory false) = Keeps before now × Unheld
+IsDelivered file before now Unwritten Unheld (Memory true) = AppendsSome before now file × Unheld
+
+-- the same of the rest of a file of which some was taken
+abbrev pub IsRestDelivered : List ℕ → Option (List ℕ) → Option (List ℕ) → Type 0 → Type 0 → Delivery → Type 0
+IsRestDelivered rest before now Unwritten Unheld Whole = Appends before now rest
+IsRestDelivered rest before now Unwritten Unheld Fault = AppendsPrefix before now rest × Unwritten
+IsRestDelivered rest before now Unwritten Unheld (Memory false) = ⊥
+IsRestDelivered rest before now Unwritten Unheld (Memory true) = AppendsPrefix before now rest × Unheld

@@ -1,0 +1,42 @@
+//! Laws over the definitions alone: each is the contract of a function that does nothing but take other laws.
+ghost use Rattle.std.specs.Prelude.{◌≡◌, ◌↔◌, ℕ, List, Some, IsTrue};
+ghost use Rattle.linear_spec.specs.declared.equations.Equations.{Equations};
+ghost use Rattle.linear_spec.specs.declared.packet.Packet.{Packet};
+ghost use Rattle.linear_spec.specs.Passing.{IsFirstFailing, Passes};
+ghost use Rattle.packet_wire.specs.Stream.{Contents};
+ghost use Rattle.avalanche_cli.specs.declared.trace.Trace.{Trace};
+ghost use Rattle.avalanche_cli.specs.Files.{IsFirstIncomplete, IsOnlyFileOf, recorded_packets, source_file};
+ghost use Rattle.avalanche_cli.specs.Packets.{AreTrueTo, HasFullRank, first_failing_check, passes};
+ghost use Rattle.avalanche_cli.specs.Trace.{IsLegalFetch};
+
+mod seeding;
+
+pub use seeding::seeded_streams;
+
+/// The check that is found for a packet is the first that it fails, and the packet passes where none is found.
+pub fn checks()
+    ensures passes { (equations : Equations) (packet : Packet) → IsTrue (passes equations packet) ↔ Passes equations packet }
+    ensures first { (equations : Equations) (packet : Packet) (check : ℕ)
+        → (first_failing_check equations packet ≡ Some check) ↔ IsFirstFailing equations packet check }
+{}
+
+/// A stream has one first generation that lacks rank, and it has one rank; where all have full rank there is none.
+pub fn incomplete()
+    ensures one { (contents : Contents) (generation rank other its : ℕ) → IsFirstIncomplete contents generation rank
+        → IsFirstIncomplete contents other its → (other ≡ generation) × (its ≡ rank) }
+    ensures not_full { (contents : Contents) (generation rank : ℕ) → IsFirstIncomplete contents generation rank
+        → ¬ HasFullRank contents }
+{
+    linear_spec::laws::ranks();
+}
+
+/// Where all packets that pass are true to some blocks, the only file of a legal trace is the file of these blocks.
+pub fn true_packets()
+    ensures { (receivers : ℕ) (contents : Contents) (trace : Trace) (blocks : ℕ → List (List ℕ)) (file : List ℕ)
+        → IsLegalFetch receivers contents trace
+        → IsOnlyFileOf contents.manifest.shape (recorded_packets trace.bases.items) file
+        → AreTrueTo contents blocks → file ≡ source_file contents.manifest.shape blocks }
+{
+    basis_core::laws::callers();
+    basis_core::laws::records();
+}
