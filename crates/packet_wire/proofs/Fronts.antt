@@ -8,7 +8,7 @@ use Rattle.generation.specs.Shape.{Dimensions, generations_of}
 use Rattle.packet_wire.proofs.Judging.{is_none, none}
 use Rattle.packet_wire.specs.declared.phase.Phase.{Phase}
 use Rattle.packet_wire.specs.declared.phase.Phase.TheVariants.{BeforeManifest, BeforeTicket, BeforeEnd, Ended}
-use Rattle.packet_wire.specs.Judgements.{Judgement, judge, body_judgements, first_failure, head_judgements, judgements, number16_at, number32_at, number64_at, fault_at, kind_in, body_len_in, shape_in, is_kind, may_follow, fits_kind, ticket_len}
+use Rattle.packet_wire.specs.Judgements.{Judgement, judge, body_judgements, first_failure, head_judgements, judgements, number16_at, number32_at, number64_at, fault_at, kind_in, body_len_in, shape_in, is_kind, may_have_version, may_follow, fits_kind, ticket_len}
 use Rattle.packet_wire.specs.Faults.{NothingFails}
 use Rattle.std.proofs.lemmas.List.{length-append, take-append-drop, length-take-le}
 
@@ -83,9 +83,9 @@ head_of_front phase front more =
           (
             same 4 _ _ faults.BadMagic 3 n (λ e. ap (λ (x : ℕ). x == 78) (cell_of_front front more 3 (omega (arith, e)))),
             (
-              same 5 _ _ faults.BadVersion 4 n (λ e. ap (λ (x : ℕ). x == 1) (cell_of_front front more 4 (omega (arith, e)))),
+              same 5 _ _ faults.BadVersion 4 n (λ e. ap (may_have_version phase) (cell_of_front front more 4 (omega (arith, e)))),
               (
-                same 6 _ _ faults.BadKind 5 n (λ e. ap is_kind (cell_of_front front more 5 (omega (arith, e)))),
+                same 6 _ _ faults.BadKind 5 n (λ e. ap (is_kind phase) (cell_of_front front more 5 (omega (arith, e)))),
                 (
                   same 6 _ _ faults.OutOfOrder 5 n (λ e. ap (may_follow phase) (cell_of_front front more 5 (omega (arith, e)))),
                   (

@@ -19,7 +19,7 @@ use Rattle.packet_wire.specs.Frame.{frame, head}
 use Rattle.packet_wire.specs.Stream.{IsManifest, IsTicket, IsPacket, manifest_body, ticket_body, packet_body, manifest_frame, ticket_frame, packet_frame, end_frame}
 use Rattle.packet_wire.specs.Frames.{MayFollow, frame_spelling}
 use Rattle.packet_wire.specs.Faults.{NothingFails}
-use Rattle.packet_wire.specs.Judgements.{Judgement, body_judgements, head_judgements, judgements, body_len_in, check_counts, number16_at, number64_at, shape_in, is_kind, may_follow, fits_kind, manifest_judgements, packet_judgements, packet_len, ticket_judgements, ticket_len}
+use Rattle.packet_wire.specs.Judgements.{Judgement, body_judgements, head_judgements, judgements, body_len_in, check_counts, number16_at, number64_at, shape_in, is_kind, may_have_version, may_follow, fits_kind, manifest_judgements, packet_judgements, packet_len, ticket_judgements, ticket_len}
 use Rattle.packet_wire.proofs.Bodies.{length-manifest_body}
 use Rattle.packet_wire.proofs.Fronts.{Passed, clean_of_passed}
 use Rattle.packet_wire.proofs.Numbers.{read16, read32, read64}
@@ -37,9 +37,9 @@ unfolding frame head
 cell_of_body kind body i = get_or-append-add (head kind (length body)) body i 0
 
 -- the head of a frame passes where its kind may follow and its length fits
-head_passes : (phase : Phase) (kind : ℕ) (body : List ℕ) (count : ℕ) → length body < 2 ^ 32 → is_kind kind ≡ true → may_follow phase kind ≡ true → fits_kind phase kind (length body) ≡ true → Passed (head_judgements phase (frame kind body)) count
+head_passes : (phase : Phase) (kind : ℕ) (body : List ℕ) (count : ℕ) → length body < 2 ^ 32 → may_have_version phase 1 ≡ true → is_kind phase kind ≡ true → may_follow phase kind ≡ true → fits_kind phase kind (length body) ≡ true → Passed (head_judgements phase (frame kind body)) count
 unfolding head_judgements frame head
-head_passes phase kind body count short known follows fits = (
+head_passes phase kind body count short versioned known follows fits = (
   λ _. refl,
   (
     λ _. refl,
@@ -48,7 +48,7 @@ head_passes phase kind body count short known follows fits = (
       (
         λ _. refl,
         (
-          λ _. refl,
+          λ _. versioned,
           (
             λ _. known,
             (
@@ -99,7 +99,7 @@ manifest_clean m is =
     let count = length (manifest_frame m) in
     clean_of_passed BeforeManifest (manifest_frame m)
     (join (head_judgements BeforeManifest (manifest_frame m)) (manifest_judgements (manifest_frame m)) count
-    (head_passes BeforeManifest 1 (manifest_body m) count (omega arith) refl refl (eq-eqb (length (manifest_body m)) 44 len))
+    (head_passes BeforeManifest 1 (manifest_body m) count (omega arith) refl refl refl (eq-eqb (length (manifest_body m)) 44 len))
     (manifest_passes m count is))
 
 -- ---- a ticket
@@ -159,7 +159,7 @@ ticket_clean two shape t limits is =
     let told = len_read 2 (ticket_body t) short in
     clean_of_passed (BeforeTicket shape) (ticket_frame t)
     (join (head_judgements (BeforeTicket shape) (ticket_frame t)) (ticket_judgements shape (ticket_frame t)) count
-    (head_passes (BeforeTicket shape) 2 (ticket_body t) count short refl refl
+    (head_passes (BeforeTicket shape) 2 (ticket_body t) count short refl refl refl
     (any_of_nine (λ (checks : ℕ). length (ticket_body t) == ticket_len shape checks) t.checks is.checks agrees)) (
       λ _. ap (λ (x : ℕ). nat_le x 8 && body_len_in (ticket_frame t) == ticket_len shape x) checks
           ∙ ap (λ (x : ℕ). nat_le t.checks 8 && x == ticket_len shape t.checks) told
@@ -184,7 +184,7 @@ packet_clean two shape p limits is =
     let generation = generation_read p (omega (arith, is.generation, limits.generations)) in
     clean_of_passed (BeforeEnd shape) (packet_frame p)
     (join (head_judgements (BeforeEnd shape) (packet_frame p)) (packet_judgements shape (packet_frame p)) count
-    (head_passes (BeforeEnd shape) 3 (packet_body p) count short refl refl (eq-eqb (length (packet_body p)) (packet_len shape) len))
+    (head_passes (BeforeEnd shape) 3 (packet_body p) count short refl refl refl (eq-eqb (length (packet_body p)) (packet_len shape) len))
     (λ _. ap (λ (x : ℕ). nat_lt x (generations_of shape)) generation ∙ lt-ltb p.generation (generations_of shape) is.generation, tt))
 
 -- ---- an end, whose frame is a head alone
@@ -194,7 +194,7 @@ unfolding judgements body_judgements frame head
 end_clean shape =
     clean_of_passed (BeforeEnd shape) end_frame
     (join (head_judgements (BeforeEnd shape) end_frame) (packet_judgements shape end_frame) 10
-    (head_passes (BeforeEnd shape) 4 [] 10 (omega arith) refl refl refl) (λ there. absurd (omega arith), tt))
+    (head_passes (BeforeEnd shape) 4 [] 10 (omega arith) refl refl refl refl) (λ there. absurd (omega arith), tt))
 
 -- ---- all of them
 

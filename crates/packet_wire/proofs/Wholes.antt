@@ -14,7 +14,7 @@ use Rattle.packet_wire.specs.declared.phase.Phase.TheVariants.{BeforeManifest, B
 use Rattle.packet_wire.specs.Frame.{frame, head}
 use Rattle.packet_wire.specs.Stream.{IsManifest, IsTicket, IsPacket, manifest_body, ticket_body, packet_body, manifest_frame, ticket_frame, packet_frame, end_frame}
 use Rattle.packet_wire.specs.Frames.{MayFollow, frame_spelling}
-use Rattle.packet_wire.specs.Judgements.{Judgement, body_judgements, head_judgements, judgements, body_len_in, check_counts, kind_in, number16_at, number32_at, number64_at, shape_in, may_follow, fits_kind, manifest_judgements, packet_judgements, packet_len, ticket_judgements, ticket_len}
+use Rattle.packet_wire.specs.Judgements.{Judgement, body_judgements, head_judgements, judgements, body_len_in, check_counts, kind_in, number16_at, number32_at, number64_at, shape_in, may_follow, fits_kind, manifest_judgements, packet_judgements, packet_len, ticket_judgements, ticket_len, may_have_version}
 use Rattle.packet_wire.specs.Making.{IsWholeFrame, frame_in, manifest_in, packet_in, ticket_in}
 use Rattle.packet_wire.proofs.Fronts.{Passed, passed_of_clean}
 use Rattle.packet_wire.proofs.Numbers.{spells16, spells32, spells64}
@@ -63,6 +63,13 @@ joined_head s a b c d e kind len tail rest cells a-is b-is c-is d-is e-is tail-i
     let headed : a ∷ b ∷ c ∷ d ∷ e ∷ kind ∷ tail ≡ frame kind rest = rw (a-is, b-is, c-is, d-is, e-is, tail-is, len-is) refl in
     cells ∙ headed
 
+-- the version that a frame may have
+first_version : (phase : Phase) (version : ℕ) → may_have_version phase version ≡ true → version ≡ 1
+first_version BeforeManifest version is = eqb-true version 1 is
+first_version (BeforeTicket shape) version is = eqb-true version 1 is
+first_version (BeforeEnd shape) version is = eqb-true version 1 is
+first_version Ended version is = absurd cc
+
 pub head_of : (phase : Phase) (held : List ℕ) → AreBytes held → 10 ≤ length held → length held ≡ 10 + body_len_in held → Passed (head_judgements phase held) (length held) → HasHead phase held
 unfolding head_judgements
 head_of phase held bytes there whole passed =
@@ -70,7 +77,7 @@ head_of phase held bytes there whole passed =
     let letter-v = eqb-true (get_or held 1 0) 86 (passed.1.0 (omega arith)) in
     let letter-l = eqb-true (get_or held 2 0) 76 (passed.1.1.0 (omega arith)) in
     let letter-n = eqb-true (get_or held 3 0) 78 (passed.1.1.1.0 (omega arith)) in
-    let version = eqb-true (get_or held 4 0) 1 (passed.1.1.1.1.0 (omega arith)) in
+    let version = first_version phase (get_or held 4 0) (passed.1.1.1.1.0 (omega arith)) in
     let count : number32_at held 6 ≡ length (drop 10 held) = omega (arith, length-drop 10 held) in
     record {
       kind = passed.1.1.1.1.1.1.0 (omega arith);

@@ -44,9 +44,19 @@ pub record Judgement : Type 0 where
 abbrev pub judge : ℕ → Bool → FaultKind → ℕ → Judgement
 judge at passes kind offset = record { at = at; passes = passes; kind = kind; offset = offset }
 
--- the kinds that there are, and those that may follow
-abbrev pub is_kind : ℕ → Bool
-is_kind kind = nat_le 1 kind && nat_le kind 4
+-- which version a frame may have, by how far the stream has come: the first alone, so far
+abbrev pub may_have_version : Phase → ℕ → Bool
+may_have_version BeforeManifest version = version == 1
+may_have_version (BeforeTicket _) version = version == 1
+may_have_version (BeforeEnd _) version = version == 1
+may_have_version Ended _ = false
+
+-- which kinds there are, and which of them may follow
+abbrev pub is_kind : Phase → ℕ → Bool
+is_kind BeforeManifest kind = nat_le 1 kind && nat_le kind 4
+is_kind (BeforeTicket _) kind = nat_le 1 kind && nat_le kind 4
+is_kind (BeforeEnd _) kind = nat_le 1 kind && nat_le kind 4
+is_kind Ended _ = false
 
 abbrev pub may_follow : Phase → ℕ → Bool
 may_follow BeforeManifest kind = kind == 1
@@ -79,8 +89,8 @@ head_judgements phase front =
     ∷ judge 2 (slice_index front 1 == 86) faults.BadMagic 1
     ∷ judge 3 (slice_index front 2 == 76) faults.BadMagic 2
     ∷ judge 4 (slice_index front 3 == 78) faults.BadMagic 3
-    ∷ judge 5 (slice_index front 4 == 1) faults.BadVersion 4
-    ∷ judge 6 (is_kind (kind_in front)) faults.BadKind 5
+    ∷ judge 5 (may_have_version phase (slice_index front 4)) faults.BadVersion 4
+    ∷ judge 6 (is_kind phase (kind_in front)) faults.BadKind 5
     ∷ judge 6 (may_follow phase (kind_in front)) faults.OutOfOrder 5
     ∷ judge 10 (fits_kind phase (kind_in front) (body_len_in front)) faults.BadLength 6
     ∷ []

@@ -1,7 +1,7 @@
 ghost use Rattle.std.specs.Prelude.{◌≡◌, ◌≤◌, ◌==◌, ◌++◌, false, length, if◌then◌else◌, nat_le};
 ghost use Rattle.std.specs.List.{list_any};
 ghost use Rattle.packet_wire.specs.Judgements.{body_judgements, head_judgements, manifest_judgements, packet_judgements};
-ghost use Rattle.packet_wire.specs.Judgements.{check_counts, fault_at, first_failure, fits_kind, is_kind, may_follow};
+ghost use Rattle.packet_wire.specs.Judgements.{check_counts, fault_at, first_failure, fits_kind, is_kind, may_follow, may_have_version};
 ghost use Rattle.packet_wire.specs.Judgements.{shape_in, ticket_judgements, unless_fault};
 ghost use Rattle.packet_wire.specs.Judgements.{packet_len as packet_len_of, ticket_len as ticket_len_of};
 ghost use Rattle.generation.specs.Shape.{generations_of};
@@ -71,7 +71,7 @@ fn judge_head(phase: &Phase, held: &[u8]) -> Option<WireFault>
         2 => unless(held[1] == b'V', FaultKind::BadMagic, 1),
         3 => unless(held[2] == b'L', FaultKind::BadMagic, 2),
         4 => unless(held[3] == b'N', FaultKind::BadMagic, 3),
-        5 => unless(held[4] == VERSION, FaultKind::BadVersion, 4),
+        5 => unless(has_version(phase, held[4]), FaultKind::BadVersion, 4),
         6 => judge_kind(phase, held[5]),
         10 => unless(
             fits(phase, held[5], number32_at(held, 6)),
@@ -84,13 +84,33 @@ fn judge_head(phase: &Phase, held: &[u8]) -> Option<WireFault>
 
 /// The kind is one that there is, and then one that may follow.
 fn judge_kind(phase: &Phase, kind: u8) -> Option<WireFault>
-    ensures { result ≡ (if is_kind kind then unless_fault (may_follow phase.now kind) FaultKind.OutOfOrder 5
+    ensures { result ≡ (if is_kind phase.now kind then unless_fault (may_follow phase.now kind) FaultKind.OutOfOrder 5
         else unless_fault false FaultKind.BadKind 5) }
 {
-    if !(1..=4).contains(&kind) {
+    if !is_kind(phase, kind) {
         return unless(false, FaultKind::BadKind, 5);
     }
     unless(follows(phase, kind), FaultKind::OutOfOrder, 5)
+}
+
+/// Whether a frame may have this version.
+fn has_version(phase: &Phase, version: u8) -> bool
+    ensures { result ≡ may_have_version phase.now version }
+{
+    match phase {
+        Phase::Ended => false,
+        _ => version == VERSION,
+    }
+}
+
+/// Whether there is this kind of frame.
+fn is_kind(phase: &Phase, kind: u8) -> bool
+    ensures { result ≡ is_kind phase.now kind }
+{
+    match phase {
+        Phase::Ended => false,
+        _ => (1..=4).contains(&kind),
+    }
 }
 
 /// Whether a frame of this kind may follow.
