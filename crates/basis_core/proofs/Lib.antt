@@ -7,7 +7,7 @@ pub mod Merging
 pub mod Offers
 pub mod PlusScaled
 pub mod Points
-pub mod Reduction
+pub mod Reducing
 pub mod Replays
 pub mod Runs
 pub mod Scaled
@@ -18,3 +18,5 @@ pub mod Worked
 pub mod Steps
 pub mod Recorded
 pub mod OneReplay
+pub mod Recording
+pub mod Spanned

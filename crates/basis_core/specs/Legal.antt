@@ -2,16 +2,18 @@
 -- answered and kept.
 -- given: for each caller number, the calls of that caller, or nothing where they are not known. records: the records of the
 -- basis, or the first of them.
-use Rattle.std.specs.Prelude.{◌≡◌, ◌≢◌, ◌⊎◌, ℕ, ◌<◌, ◌≤◌, ◌^◌, ◌==◌, Bool, List, [], ◌∷◌, ◌++◌, length, map, take, Some}
+use Rattle.std.specs.Prelude.{◌≡◌, ◌≢◌, ◌⊎◌, ℕ, ◌<◌, ◌≤◌, ◌^◌, ◌==◌, Bool, List, [], ◌∷◌, ◌++◌, length, map, take, Some, slice_index_or}
 use Rattle.std.specs.List.{filter}
 use Rattle.linear_spec.specs.declared.equations.Equations.{Equations}
 use Rattle.linear_spec.specs.declared.packet.Packet.{Packet}
 use Rattle.linear_spec.specs.declared.record.Record.{Record}
+use Rattle.linear_spec.specs.Packet.{Fits, coefficients_of}
+use Rattle.linear_spec.specs.Span.{InSpan}
 use Rattle.linear_spec.specs.SequentialBasis.{packets_of}
 use Rattle.linear_spec.specs.Passing.{Passes}
 use Rattle.linear_spec.specs.Cases.{IsFresh}
 use Rattle.std.specs.Option.{option_to_list}
-use Rattle.basis_core.specs.Calls.{KeptCall, point_of, recorded_by, seen_after, AreInOrder, IsAnsweredAt}
+use Rattle.basis_core.specs.Calls.{KeptCall, KeptOffer, KeptDraw, point_of, recorded_by, seen_after, AreInOrder, IsAnsweredAt}
 use Rattle.basis_core.specs.Run.{AreAnsweredFrom, records_after}
 use Rattle.basis_core.specs.Merge.{Given, caller_numbers, all_calls, merge_of}
 
@@ -71,3 +73,20 @@ record_by caller number call = map (λ packet. record { caller = caller; call = 
 abbrev pub IsRecordedIn : List KeptCall → Packet → Type 0
 IsRecordedIn [] packet = ⊥
 IsRecordedIn (call ∷ calls) packet = (recorded_by call ≡ Some packet) ⊎ IsRecordedIn calls packet
+
+-- the record at this place of the records is a caller's, and has this packet
+pub record IsRecordAt (records : List Record) (place caller : ℕ) (packet : Packet) : Type 0 where
+  pub within : place < length records
+  pub caller_is : (record' : Record) → (slice_index_or records place record').caller ≡ caller
+  pub packet_is : (record' : Record) → (slice_index_or records place record').packet ≡ packet
+
+-- what a call of this caller recorded, if it did, is the record at the call's point
+abbrev pub HasItsRecord : List Record → ℕ → KeptCall → Type 0
+HasItsRecord records caller call = (packet : Packet) → recorded_by call ≡ Some packet
+    → IsRecordAt records (point_of call) caller packet
+
+-- of an offer, where the packet passes and fits: some combination of the records' packets has its coefficients
+abbrev pub IsSpanned : Equations → List Record → KeptCall → Type 0
+IsSpanned equations records (KeptOffer tag packet reply) = Passes equations packet → Fits equations.k equations.s packet
+    → InSpan equations.k (coefficients_of (packets_of records)) packet.coeffs
+IsSpanned equations records (KeptDraw tag drawn) = Unit {0}

@@ -5,7 +5,7 @@ ghost use Rattle.linear_spec.specs.Packet.{Fits};
 ghost use Rattle.linear_spec.specs.Rows.{pivot_of};
 ghost use Rattle.basis_core.specs.Found.{Tells};
 
-use crate::reduce::{inverse_of_first, is_zero, reduce, scale};
+use crate::reduction::{inverse_of_first, is_zero, reduce, scale};
 use gf16::Memory;
 use linear_spec::{List, Packet};
 use std::alloc::Global;

@@ -6,7 +6,7 @@ mod examine;
 pub mod laws;
 mod machine;
 mod order;
-mod reduce;
+pub mod reduction;
 mod trace;
 
 pub use entry::Entry;

@@ -1,4 +1,5 @@
 pub mod BackSubstitution
+pub mod Columns
 pub mod FirstNonzero
 pub mod Offers
 pub mod PlusScaled

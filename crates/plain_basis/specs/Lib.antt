@@ -1,3 +1,4 @@
 pub mod BackSubstitution
 pub mod Basis
+pub mod Columns
 pub mod Solutions

@@ -4,8 +4,10 @@ ghost use Rattle.linear_spec.specs.Packet.{Fits, coefficients_of};
 ghost use Rattle.linear_spec.specs.SequentialBasis.{IsCaseReply, recorded};
 ghost use Rattle.linear_spec.specs.Solving.{Solves};
 ghost use Rattle.linear_spec.specs.Span.{HasRank};
+ghost use Rattle.plain_basis.specs.Columns.{TellMissingColumns};
 ghost use Rattle.plain_basis.specs.Solutions.{IsOnlySolution};
 
+use crate::missing::mark_missing;
 use crate::reduce::{inverse_of_first, is_zero, reduce, scale};
 use crate::solve::solve_rows;
 use gf16::Memory;
@@ -99,6 +101,14 @@ impl PlainBasis {
         &self.packets
     }
 
+    /// Writes for each of the K columns whether it is missing: true exactly where no row has its pivot. Takes no memory.
+    pub fn missing_columns(&self, out: &mut [bool])
+        requires { length out.old ≡ self.now.k }
+        ensures columns { TellMissingColumns self.now.k self.now.s self.now.packets out.new }
+    {
+        mark_missing(&self.rows, out);
+    }
+
     /// The blocks that solve the records, K of S symbols: there are no others. They take memory of the basis's allocator.
     pub fn solve(&self) -> Result<List<SymVec>, Memory>
         requires full { length self.now.packets ≡ self.now.k }
@@ -106,6 +116,8 @@ impl PlainBasis {
         ensures only { IfOk result (λ blocks. IsOnlySolution self.now.k self.now.s self.now.packets blocks.items) }
     {
         linear_spec::laws::solving();
-        solve_rows(self.alloc, self.k, self.s, &self.rows)
+        let k = self.k as usize;
+        let s = self.s as usize;
+        solve_rows(self.alloc, k, s, &self.rows)
     }
 }

@@ -1,12 +1,14 @@
 //! The basis of one thread, the plainest one: it records the packets that tell something new, answers each packet by its
-//! case, and solves.
+//! case, tells which columns it misses, and solves.
 #![tactic(auto)]
 
 mod basis;
+mod missing;
 mod reduce;
 mod solve;
 
 pub use basis::PlainBasis;
+pub use solve::solve_rows;
 
 #[cfg(test)]
 mod solving_tests;

@@ -12,11 +12,12 @@ use gf16::{Gf, Memory};
 use linear_spec::{List, Packet, SymVec};
 use std::alloc::Global;
 
-/// k blocks of s symbols that solve rows, which stand for some packets.
+/// K blocks of S symbols that solve rows, each of K coefficients and S symbols, which stand for some packets in their order.
+/// There may be fewer than K rows. The blocks take memory of `alloc`.
 pub fn solve_rows(
     alloc: Global,
-    k: u16,
-    s: u16,
+    k: usize,
+    s: usize,
     rows: &List<Packet>,
 ) -> Result<List<SymVec>, Memory>
     requires { AreRows k s rows.now.items }
@@ -24,7 +25,7 @@ pub fn solve_rows(
 {
     linear_spec::laws::combinations();
     linear_spec::laws::solving();
-    let mut blocks = zero_blocks(alloc, k as usize, s as usize)?;
+    let mut blocks = zero_blocks(alloc, k, s)?;
     let rows = rows.as_slice();
     for at in (0..rows.len()).rev() {
         let row = &rows[at];

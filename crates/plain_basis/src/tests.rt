@@ -26,3 +26,30 @@ fn each_packet_is_answered_by_its_case(rt: HostRuntime) -> Result<(), Fail> {
     assert_eq!(rt; recorded.payload.as_slice(), [0x6300].as_slice());
     Ok(())
 }
+
+#[test]
+fn columns_are_missing_until_a_row_has_its_pivot_there(rt: HostRuntime) -> Result<(), Fail> {
+    let alloc = rt.alloc();
+    let mut missing = [false, false];
+    let mut basis = PlainBasis::new(alloc, 2, 1);
+    basis.missing_columns(&mut missing);
+    assert_eq!(rt; missing, [true, true]);
+    basis.offer(packet(alloc, &[1, 1], &[0x0262])?)?;
+    basis.missing_columns(&mut missing);
+    assert_eq!(rt; missing, [false, true]);
+    basis.offer(packet(alloc, &[1, 2], &[0xA762])?)?;
+    basis.missing_columns(&mut missing);
+    assert_eq!(rt; missing, [false, false]);
+    Ok(())
+}
+
+#[test]
+fn a_first_row_may_have_its_pivot_in_the_second_column(rt: HostRuntime) -> Result<(), Fail> {
+    let alloc = rt.alloc();
+    let mut missing = [false, false];
+    let mut basis = PlainBasis::new(alloc, 2, 1);
+    basis.offer(packet(alloc, &[0, 1], &[0x6300])?)?;
+    basis.missing_columns(&mut missing);
+    assert_eq!(rt; missing, [true, false]);
+    Ok(())
+}

@@ -1,4 +1,7 @@
 //! Vectors reduced by rows, and scaled so that their first coefficient is 1.
+//!
+//! A vector has the shape of a packet: K coefficients, and S payload symbols. A row is a vector whose first coefficient that
+//! is not 0, at its pivot, clears that column. Nothing here takes memory.
 ghost use Rattle.std.specs.Prelude.{◌≡◌, ◌<◌, ◌↔◌, length, replicate, slice_index, IsTrue, MatchOption};
 ghost use Rattle.std.specs.List.{All};
 ghost use Rattle.gf16.specs.Field.{product_of};
@@ -9,7 +12,8 @@ ghost use Rattle.linear_spec.specs.Rows.{pivot_of, first_nonzero, remainder_of};
 use gf16::Gf;
 use linear_spec::{List, Packet};
 
-/// Reduces a vector by rows of its lengths, row after row.
+/// Reduces a vector of K coefficients and S symbols by rows, each of K coefficients and S symbols and with a pivot below K:
+/// row after row, as `reduce_by` does. Its lengths stay.
 pub fn reduce(vector: &mut Packet, rows: &List<Packet>)
     requires fit { All (Fits (length vector.old.coeffs) (length vector.old.payload)) rows.now.items }
     requires pivots { All (λ row. pivot_of row < length vector.old.coeffs) rows.now.items }
@@ -23,8 +27,9 @@ pub fn reduce(vector: &mut Packet, rows: &List<Packet>)
     }
 }
 
-/// Subtracts from a vector the row times the vector's symbol at the row's pivot. Here to subtract is to add.
-fn reduce_by(vector: &mut Packet, row: &Packet)
+/// Subtracts from a vector of K coefficients and S symbols a row of K coefficients, one of them not 0, and S symbols: the row
+/// times the vector's symbol at the row's pivot. Here to subtract is to add.
+pub fn reduce_by(vector: &mut Packet, row: &Packet)
     requires coeffs { length row.now.coeffs ≡ length vector.old.coeffs }
     requires payload { length row.now.payload ≡ length vector.old.payload }
     requires pivot { pivot_of row.now < length row.now.coeffs }
@@ -53,7 +58,7 @@ fn add_row(vector: &mut Packet, factor: Gf, row: &Packet)
     );
 }
 
-/// Multiplies a vector by a factor.
+/// Multiplies each of a vector's K coefficients and S symbols by a factor.
 pub fn scale(vector: &mut Packet, factor: Gf)
     ensures coeffs { vector.new.coeffs ≡ scaled factor.0 vector.old.coeffs }
     ensures payload { vector.new.payload ≡ scaled factor.0 vector.old.payload }
@@ -62,7 +67,7 @@ pub fn scale(vector: &mut Packet, factor: Gf)
     scale_symbols(vector.payload.as_mut_slice(), factor);
 }
 
-/// The inverse of the first symbol that is not 0, or `None` where all are.
+/// Of a vector's K coefficients, or any symbols, the inverse of the first that is not 0, or `None` where all are.
 pub fn inverse_of_first(symbols: &[u16]) -> Option<Gf>
     ensures { MatchOption result (symbols.now ≡ replicate (length symbols.now) 0) (λ inverse. product_of (slice_index symbols.now (first_nonzero symbols.now)) inverse.0 ≡ 1) }
 {
@@ -70,14 +75,14 @@ pub fn inverse_of_first(symbols: &[u16]) -> Option<Gf>
     Gf(symbols[place]).inv()
 }
 
-/// Whether all symbols are 0.
+/// Whether all of a vector's K coefficients or S symbols, or any others, are 0.
 pub fn is_zero(symbols: &[u16]) -> bool
     ensures { IsTrue result ↔ (symbols.now ≡ replicate (length symbols.now) 0) }
 {
     symbols.iter().all(|symbol| *symbol == 0)
 }
 
-/// The place of the first symbol that is not 0, or `None` where all are.
+/// Of a row's K coefficients the place of the first that is not 0, which is below K: the row's pivot. `None` where all are.
 pub fn place_of_first(symbols: &[u16]) -> Option<usize>
     ensures { MatchOption result (symbols.now ≡ replicate (length symbols.now) 0) (λ place. (place ≡ first_nonzero symbols.now) × (place < length symbols.now)) }
 {
@@ -85,7 +90,7 @@ pub fn place_of_first(symbols: &[u16]) -> Option<usize>
 }
 
 /// Adds symbols times a factor to as many others.
-pub fn add_scaled(symbols: &mut [u16], factor: Gf, others: &[u16])
+fn add_scaled(symbols: &mut [u16], factor: Gf, others: &[u16])
     requires { length others.now ≡ length symbols.old }
     ensures { symbols.new ≡ plus_scaled symbols.old factor.0 others.now }
 {

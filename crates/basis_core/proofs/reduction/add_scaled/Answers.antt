@@ -1,7 +1,7 @@
 use Rattle.std.proofs.Common.{◌<◌, length, get_or, set, ap, ◌∙◌, arith}
 use Rattle.gf16.specs.Field.{sum_of}
 use Rattle.basis_core.proofs.PlusScaled.{plus_scaled-none, plus_scaled_more}
-use Rattle.basis_core.proofs.reduce.add_scaled.Goals as goal
+use Rattle.basis_core.proofs.reduction.add_scaled.Goals as goal
 
 pub loop-i-init : goal.loop-i-init
 loop-i-init c = plus_scaled-none c.args.factor.0 c.args.symbols.now c.args.others.now

@@ -1,7 +1,7 @@
 use Rattle.std.proofs.Common.{rules, ◌≡◌, ◌≢◌, ℕ, ◌<◌, List, length, get_or, Option, Some, None, MatchOption, replicate}
 use Rattle.linear_spec.specs.Rows.{first_nonzero}
 use Rattle.basis_core.proofs.FirstNonzero.{all_zero, is_first}
-use Rattle.basis_core.proofs.reduce.place_of_first.Goals as goal
+use Rattle.basis_core.proofs.reduction.place_of_first.Goals as goal
 
 told : (xs : List ℕ) (r : Option ℕ)
     → MatchOption r ((k : ℕ) → k < length xs → get_or xs k 0 ≡ 0) (λ i. (i < length xs) × (get_or xs i 0 ≢ 0) × ((k : ℕ) → k < i → get_or xs k 0 ≡ 0))

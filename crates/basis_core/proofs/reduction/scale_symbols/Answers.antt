@@ -1,6 +1,6 @@
 use Rattle.std.proofs.Common.{◌<◌, length, set, ap, ◌∙◌, arith}
 use Rattle.basis_core.proofs.Scaled.{scaled_more}
-use Rattle.basis_core.proofs.reduce.scale_symbols.Goals as goal
+use Rattle.basis_core.proofs.reduction.scale_symbols.Goals as goal
 
 pub loop-symbol-preserved : goal.loop-symbol-preserved
 loop-symbol-preserved c =

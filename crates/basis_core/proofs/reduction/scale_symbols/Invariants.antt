@@ -1,6 +1,6 @@
 use Rattle.std.proofs.Common.{◌≡◌}
 use Rattle.basis_core.proofs.Scaled.{scaled_to}
-use Rattle.basis_core.proofs.reduce.scale_symbols.Given as goal
+use Rattle.basis_core.proofs.reduction.scale_symbols.Given as goal
 
 -- the symbols so far were multiplied
 abbrev pub invariant-loop-symbol : goal.invariant-loop-symbol

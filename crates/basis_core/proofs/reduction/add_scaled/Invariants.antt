@@ -1,6 +1,6 @@
 use Rattle.std.proofs.Common.{◌≡◌, take}
 use Rattle.gf16.specs.Sums.{plus_scaled}
-use Rattle.basis_core.proofs.reduce.add_scaled.Given as goal
+use Rattle.basis_core.proofs.reduction.add_scaled.Given as goal
 
 -- the others so far were added
 abbrev pub invariant-loop-i : goal.invariant-loop-i

@@ -1,7 +1,7 @@
 use Rattle.std.proofs.Common.{◌≡◌, length, drop}
 use Rattle.linear_spec.specs.Packet.{vector_of}
 use Rattle.linear_spec.specs.Rows.{remainder_of}
-use Rattle.basis_core.proofs.reduce.reduce.Given as goal
+use Rattle.basis_core.proofs.reduction.reduce.Given as goal
 
 -- the rows that are left reduce what there is to what all rows make of the vector
 abbrev pub invariant-loop-row : goal.invariant-loop-row

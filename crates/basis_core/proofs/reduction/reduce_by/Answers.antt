@@ -1,7 +1,7 @@
 use Rattle.std.proofs.Common.{◌≡◌, ◌<◌, length, get_or, replicate, ap, ◌∙◌, subst}
 use Rattle.linear_spec.specs.Rows.{first_nonzero}
-use Rattle.basis_core.proofs.Reduction.{not_all_zero, length-plus_scaled, reduced_by}
-use Rattle.basis_core.proofs.reduce.reduce_by.Goals as goal
+use Rattle.basis_core.proofs.Reducing.{not_all_zero, length-plus_scaled, reduced_by}
+use Rattle.basis_core.proofs.reduction.reduce_by.Goals as goal
 
 pub returns-in-Some-clause-vector : goal.returns-in-Some-clause-vector
 returns-in-Some-clause-vector c =

@@ -1,5 +1,5 @@
-use Rattle.basis_core.proofs.Reduction.{inverse_at}
-use Rattle.basis_core.proofs.reduce.inverse_of_first.Goals as goal
+use Rattle.basis_core.proofs.Reducing.{inverse_at}
+use Rattle.basis_core.proofs.reduction.inverse_of_first.Goals as goal
 
 pub returns : goal.returns
 returns c =
