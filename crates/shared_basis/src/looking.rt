@@ -1,0 +1,99 @@
+//! Looks: the directory read on, and each region that is found read whole.
+ghost use Rattle.std.specs.Prelude.{◌≡◌, ◌<◌, ◌≤◌, ◌+◌, ◌^◌, [], ◌∷◌, ◌++◌, length, slice_index_or, vec_len};
+ghost use Rattle.std.specs.Bool.{OnTrue, OnFalse};
+ghost use Rattle.table_rows.specs.Seats.{IsCallerAt};
+ghost use Rattle.table_rows.specs.Steps.{IsSound, after_empty, after_reads};
+ghost use Rattle.table_rows.specs.Views.{width_of};
+ghost use Rattle.shared_basis.specs.Desks.{IsDesk};
+ghost use Rattle.shared_basis.specs.Regions.{HasFound, HasLookedOn, regions_seen};
+
+use crate::desk::Desk;
+use crate::drafts::read_region;
+use table_rows::BasisTable;
+
+/// Takes in a region that a step has just found, and reads it: its words are the desk's afterwards.
+pub(crate) fn learn(table: &BasisTable, desk: &mut Desk, region: u64)
+    requires seat { IsCallerAt table.now desk.old.seat }
+    requires known { desk.old.seat.view.sight.front.known ≡ desk.old.known.items ++ region ∷ [] }
+    requires few { length desk.old.known.items < 64 }
+    requires room { 0 < desk.old.known.spare }
+    requires words { vec_len desk.old.words ≡ width_of table.now.parameters }
+    requires narrow { width_of table.now.parameters < 2 ^ 32 }
+    ensures seat { IsCallerAt table.now desk.new.seat }
+    ensures view { desk.new.seat.view ≡ after_reads desk.old.seat.view (length desk.old.known.items) desk.new.words.items }
+    ensures sound { IsSound desk.new.seat.view }
+    ensures known { desk.new.known.items ≡ desk.old.known.items ++ region ∷ [] }
+    ensures room { desk.new.known.spare + 1 ≡ desk.old.known.spare }
+    ensures words { vec_len desk.new.words ≡ vec_len desk.old.words }
+    ensures draft { desk.new.draft ≡ desk.old.draft }
+    ensures left { desk.new.left ≡ desk.old.left }
+    ensures row { desk.new.row ≡ desk.old.row }
+{
+    let n = desk.known.len() as u16;
+    desk.known.put(region);
+    read_region(table, &mut desk.seat, n, region, desk.words.as_mut_slice());
+}
+
+/// Looks at the word behind those that are known, and answers whether there was a region. That is read then, and its words are
+/// the desk's.
+fn look_once(table: &BasisTable, desk: &mut Desk) -> bool
+    requires desk { IsDesk desk.old }
+    requires seat { IsCallerAt table.now desk.old.seat }
+    requires more { length desk.old.known.items < table.now.parameters.k }
+    requires few { table.now.parameters.k ≤ 64 }
+    ensures desk { IsDesk desk.new }
+    ensures seat { IsCallerAt table.now desk.new.seat }
+    ensures found { OnTrue result (HasFound (desk.new.words.items ∷ []) desk.old.seat.view desk.new.seat.view) }
+    ensures empty { OnFalse result (desk.new.seat.view ≡ after_empty desk.old.seat.view) }
+    ensures left { desk.new.left ≡ desk.old.left }
+{
+    table_rows::laws::filling();
+    let n = desk.known.len() as u16;
+    let region = table.look(&mut desk.seat, n);
+    if region == 0 {
+        return false;
+    }
+    learn(table, desk, region);
+    true
+}
+
+/// Looks on until a word is empty, or all K records are known.
+pub(crate) fn look_on(table: &BasisTable, desk: &mut Desk, k: u16)
+    requires desk { IsDesk desk.old }
+    requires seat { IsCallerAt table.now desk.old.seat }
+    requires k { (k ≡ table.now.parameters.k) × (k ≤ 64) }
+    ensures desk { IsDesk desk.new }
+    ensures seat { IsCallerAt table.now desk.new.seat }
+    ensures looked { HasLookedOn k desk.old.seat.view desk.new.seat.view }
+{
+    while desk.known.len() < usize::from(k) {
+        if !look_once(table, desk) {
+            return;
+        }
+    }
+}
+
+/// Reads a region again that was read before: its words are the desk's afterwards.
+pub(crate) fn read_again(table: &BasisTable, desk: &mut Desk, n: usize)
+    requires desk { IsDesk desk.old }
+    requires seat { IsCallerAt table.now desk.old.seat }
+    requires known { n < length desk.old.known.items }
+    requires few { table.now.parameters.k ≤ 64 }
+    ensures desk { IsDesk desk.new }
+    ensures seat { IsCallerAt table.now desk.new.seat }
+    ensures view { desk.new.seat.view ≡ record desk.old.seat.view { reads = desk.old.seat.view.reads + width_of table.now.parameters } }
+    ensures words { desk.new.words.items ≡ slice_index_or (regions_seen desk.old.seat.view) n [] }
+    ensures known { desk.new.known ≡ desk.old.known }
+    ensures left { desk.new.left ≡ desk.old.left }
+    ensures row { desk.new.row ≡ desk.old.row }
+{
+    table_rows::laws::filling();
+    let region = desk.known.as_slice()[n];
+    read_region(
+        table,
+        &mut desk.seat,
+        n as u16,
+        region,
+        desk.words.as_mut_slice(),
+    );
+}

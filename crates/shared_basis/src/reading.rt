@@ -1,0 +1,52 @@
+//! What a pass has seen, read again.
+ghost use Rattle.std.specs.Prelude.{◌≡◌, ◌<◌, ◌↔◌, ℕ, false, length, slice_index_or, Contains, IsTrue};
+ghost use Rattle.linear_spec.specs.declared.packet.Packet.{Packet as packet_type};
+ghost use Rattle.linear_spec.specs.declared.record.Record.{Record};
+ghost use Rattle.linear_spec.specs.Rows.{missing_columns_of};
+ghost use Rattle.shared_basis.specs.Desks.{HasLengths};
+ghost use Rattle.shared_basis.specs.Passes.{HasKept, IsPassOf};
+
+use crate::columns::mark_missing;
+use crate::looking::read_again;
+use crate::regions::{take_packet, take_row};
+use crate::{Pass, SharedBasis};
+use linear_spec::Packet;
+
+impl SharedBasis {
+    /// Writes the packet of record `n` into `out`, its generation too.
+    pub fn read_packet(&self, pass: &mut Pass, n: u16, out: &mut Packet)
+        requires pass { IsPassOf self.now pass.old }
+        requires seen { n < length pass.old.seen }
+        requires lengths { HasLengths self.now.parameters out.old }
+        ensures pass { HasKept pass.old pass.new }
+        ensures packet { (other : Record) → out.new ≡ (slice_index_or pass.old.seen n other).packet }
+    {
+        read_again(&self.table, &mut pass.desk, usize::from(n));
+        out.generation = self.params.generation;
+        take_packet(pass.desk.words.as_slice(), out);
+    }
+
+    /// Writes the row of record `n` into `out`, with the basis's generation.
+    pub fn read_row(&self, pass: &mut Pass, n: u16, out: &mut Packet)
+        requires pass { IsPassOf self.now pass.old }
+        requires seen { n < length pass.old.seen }
+        requires lengths { HasLengths self.now.parameters out.old }
+        ensures pass { HasKept pass.old pass.new }
+        ensures row { (other : packet_type) → out.new ≡ slice_index_or pass.old.rows n other }
+    {
+        read_again(&self.table, &mut pass.desk, usize::from(n));
+        out.generation = self.params.generation;
+        take_row(pass.desk.words.as_slice(), out);
+    }
+
+    /// Tells of each column whether no row that was seen has its pivot there.
+    pub fn missing_columns(&self, pass: &mut Pass, out: &mut [bool])
+        requires pass { IsPassOf self.now pass.old }
+        requires columns { length out.old ≡ self.now.parameters.k }
+        ensures pass { HasKept pass.old pass.new }
+        ensures missing { (column : ℕ) → column < self.now.parameters.k
+            → IsTrue (slice_index_or out.new column false) ↔ Contains (missing_columns_of self.now.parameters.k pass.old.rows) column }
+    {
+        mark_missing(&self.table, &mut pass.desk, out);
+    }
+}
