@@ -1,0 +1,3 @@
+pub mod Inboxes
+pub mod Made
+pub mod Sent
