@@ -2,7 +2,8 @@
 # It wants $top, the top of the repository.
 crate=$top/crates/benchmarks
 program=$crate/out/benchmarks
-parts=(gf16 gf_lanes linear_spec generation packet_wire swarm_io table_rows benchmarks)
+parts=(gf16 gf_lanes linear_spec generation packet_wire swarm_io plain_basis basis_core table_rows shared_basis src_check receive_pass
+  benchmarks)
 
 # Builds the program where it is missing or older than what it is made of.
 build_where_needed() {

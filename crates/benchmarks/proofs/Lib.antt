@@ -1,3 +1,4 @@
 pub mod DecodingLemmas
+pub mod SharedLemmas
 pub mod Sums
 pub mod TurnLemmas

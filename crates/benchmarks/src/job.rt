@@ -1,4 +1,6 @@
 use crate::decoding::Decoding;
+use crate::offers::Offers;
+use crate::shared::SharedOffers;
 use crate::tables::Tables;
 use crate::work::Work;
 use crate::zeros::Zeros;
@@ -11,6 +13,10 @@ pub enum Job {
     Kernel(Work),
     /// `decode PIECE TIMES`.
     Decode(Decoding),
+    /// `offers plain K S COUNT TIMES`.
+    OffersPlain(Offers),
+    /// `offers shared K S COUNT PASSES TIMES`.
+    OffersShared(SharedOffers),
     /// `table K S PASSES TIMES`.
     Table(Tables),
     /// `zeros BYTES TIMES`.
@@ -26,6 +32,7 @@ impl Job {
                 let decoding = Decoding::named(words.get(1)?, words.get(2)?)?;
                 Some(Job::Decode(decoding))
             }
+            ("offers", _) => offers_named(words),
             ("table", 5) => {
                 let tables = Tables::named(
                     words.get(1)?,
@@ -45,5 +52,26 @@ impl Job {
             }
             _ => None,
         }
+    }
+}
+
+/// The offers that words name, or `None` where they name none.
+fn offers_named(words: &Words) -> Option<Job> {
+    match (words.get(1)?, words.len()) {
+        ("plain", 6) => {
+            let offers = Offers::named(words.get(2)?, words.get(3)?, words.get(4)?, words.get(5)?)?;
+            Some(Job::OffersPlain(offers))
+        }
+        ("shared", 7) => {
+            let shared = SharedOffers::named(
+                words.get(2)?,
+                words.get(3)?,
+                words.get(4)?,
+                words.get(5)?,
+                words.get(6)?,
+            )?;
+            Some(Job::OffersShared(shared))
+        }
+        _ => None,
     }
 }

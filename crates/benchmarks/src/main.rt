@@ -6,6 +6,10 @@
 //!   LANES 8, 16 or 32.
 //! - `decode PIECE TIMES` reads a stream, decodes it that often from pieces of that many bytes, and prints the number of
 //!   frames of all turns.
+//! - `offers plain K S COUNT TIMES` makes that many packets and offers them all to a plain basis, that often, each time to a
+//!   new one, and prints the number of records of all of them.
+//! - `offers shared K S COUNT PASSES TIMES` does so with a shared basis: the packets are dealt to that many passes in turn, each
+//!   pass in a thread of its own.
 //! - `table K S PASSES TIMES` makes that many tables of such a basis, and prints the number of their words.
 //! - `zeros BYTES TIMES` writes zeros over that many bytes, that often, and prints their sum.
 #![tactic(auto)]
@@ -13,6 +17,8 @@
 mod decoding;
 mod job;
 mod kernel;
+mod offers;
+mod shared;
 mod tables;
 #[cfg(test)]
 mod tests;
@@ -36,7 +42,8 @@ const MAX_STREAM: u64 = 67_108_864;
 fn main(rt: HostRuntime) -> Result<()> {
     let words = words_of(&rt)?;
     let job = Job::named(&words).context(
-        "the words are KERNEL LANES BYTES TIMES, decode PIECE TIMES, table K S PASSES TIMES or zeros BYTES TIMES",
+        "the words are KERNEL LANES BYTES TIMES, decode PIECE TIMES, offers plain K S COUNT TIMES, \
+         offers shared K S COUNT PASSES TIMES, table K S PASSES TIMES or zeros BYTES TIMES",
     )?;
     match job {
         Job::Kernel(work) => {
@@ -47,6 +54,14 @@ fn main(rt: HostRuntime) -> Result<()> {
             let mut input = StdSource::new(rt.stdin());
             let frames = frames_of(rt.alloc(), &decoding, &mut input)?;
             println!(rt; "{frames}")?;
+        }
+        Job::OffersPlain(offers) => {
+            let records = offers.records_of_plain(rt.alloc())?;
+            println!(rt; "{records}")?;
+        }
+        Job::OffersShared(shared) => {
+            let records = shared.records(&rt, rt.alloc())?;
+            println!(rt; "{records}")?;
         }
         Job::Table(tables) => {
             let words = tables.words_made(rt.alloc())?;

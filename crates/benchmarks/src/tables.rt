@@ -51,7 +51,7 @@ impl Tables {
 }
 
 /// Equations with no checks, for one generation.
-fn no_checks(alloc: Global, k: u16, s: u16) -> Result<Equations, Memory>
+pub(crate) fn no_checks(alloc: Global, k: u16, s: u16) -> Result<Equations, Memory>
     ensures equations { IfOk result AreEquations }
     ensures shape { IfOk result (λ e. (e.k ≡ k) × (e.s ≡ s) × (e.generations ≡ 1)) }
 {

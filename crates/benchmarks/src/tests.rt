@@ -2,6 +2,8 @@ ghost use Rattle.std.specs.Prelude.{◌≤◌, length};
 
 use crate::decoding::Decoding;
 use crate::job::Job;
+use crate::offers::Offers;
+use crate::shared::SharedOffers;
 use crate::tables::Tables;
 use crate::work::Work;
 use crate::zeros::Zeros;
@@ -65,6 +67,27 @@ fn decodes_the_frames_of_a_stream(rt: HostRuntime) -> Result<(), Fail> {
 }
 
 #[test]
+fn plain_and_shared_bases_record_as_many(rt: HostRuntime) -> Result<(), Fail> {
+    let cases = [
+        ("2", "1", "4", "1", "3", 6),
+        ("8", "3", "5", "2", "2", 10),
+        ("8", "3", "20", "4", "2", 16),
+        ("8", "0", "20", "16", "1", 8),
+        ("8", "3", "0", "3", "2", 0),
+        ("64", "4", "64", "2", "0", 0),
+    ];
+    for (k, s, count, passes, turns, records) in cases {
+        let offers = Offers::named(k, s, count, turns).ok_or(k)?;
+        let plain = offers.records_of_plain(rt.alloc())?;
+        assert_eq!(rt; plain, records, "{k} {s} {count} {turns}");
+        let shared = SharedOffers::named(k, s, count, passes, turns).ok_or(k)?;
+        let of_shared = shared.records(&rt, rt.alloc())?;
+        assert_eq!(rt; of_shared, records, "{k} {s} {count} {passes} {turns}");
+    }
+    Ok(())
+}
+
+#[test]
 fn makes_the_words_of_tables(rt: HostRuntime) -> Result<(), Fail> {
     let cases = [
         ("2", "1", "1", "3", 60),
@@ -113,6 +136,16 @@ fn words_name_jobs(rt: HostRuntime) -> Result<(), Fail> {
         ("decode 0 1", false),
         ("decode 1 0", false),
         ("decode 1", false),
+        ("offers plain 64 512 64 0", true),
+        ("offers plain 0 512 64 1", false),
+        ("offers plain 65 512 64 1", false),
+        ("offers plain 64 512 64 4 1", false),
+        ("offers shared 64 512 64 16 0", true),
+        ("offers shared 64 512 64 17 1", false),
+        ("offers shared 64 512 64 0 1", false),
+        ("offers shared 64 512 64 1", false),
+        ("offers mixed 64 512 64 1", false),
+        ("offers", false),
         ("table 64 512 16 0", true),
         ("table 65 512 4 1", false),
         ("table 0 512 4 1", false),
