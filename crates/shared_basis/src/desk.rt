@@ -14,6 +14,6 @@ pub(crate) struct Desk {
     pub words: Vec<u64>,
     /// What is left of a packet that is reduced.
     pub left: Packet,
-    /// A row that was read or made.
+    /// A row that was read or made, or a packet that was read.
     pub row: Packet,
 }

@@ -1,5 +1,5 @@
 //! Whole regions, read and written word after word.
-ghost use Rattle.std.specs.Prelude.{◌≡◌, ◌^◌, ◌<◌, ◌≤◌, ℕ, List, Some, [], length, map, slice_index, slice_index_or};
+ghost use Rattle.std.specs.Prelude.{◌≡◌, ◌^◌, ◌<◌, ℕ, List, Some, [], length, map, slice_index, slice_index_or};
 ghost use Rattle.table_rows.specs.Seats.{IsCallerAt};
 ghost use Rattle.table_rows.specs.Steps.{IsSound, after_reads};
 ghost use Rattle.table_rows.specs.Views.{width_of};

@@ -13,6 +13,7 @@ mod columns;
 mod decoding;
 mod desk;
 mod drafts;
+mod drawing;
 mod gathering;
 mod looking;
 mod meeting;

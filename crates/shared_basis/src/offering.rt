@@ -1,5 +1,5 @@
 //! Calls that a pass keeps: offers and refusals; and looks, which it does not keep.
-ghost use Rattle.std.specs.Prelude.{◌≡◌, ◌<◌, ◌≤◌, ◌+◌, ◌*◌, [], ◌∷◌, ◌++◌, length};
+ghost use Rattle.std.specs.Prelude.{◌≡◌, ◌<◌, ◌≤◌, ◌+◌, ◌*◌, length};
 ghost use Rattle.linear_spec.specs.declared.reply.Reply.TheVariants.{FailedCheck};
 ghost use Rattle.linear_spec.specs.Passing.{IsFirstFailing, Passes};
 ghost use Rattle.basis_core.specs.Calls.{KeptOffer, point_of_reply};

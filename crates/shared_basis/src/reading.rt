@@ -1,5 +1,6 @@
 //! What a pass has seen, read again.
 ghost use Rattle.std.specs.Prelude.{◌≡◌, ◌<◌, ◌↔◌, ℕ, false, length, slice_index_or, Contains, IsTrue};
+ghost use Rattle.gf16.specs.Sums.{plus_scaled};
 ghost use Rattle.linear_spec.specs.declared.packet.Packet.{Packet as packet_type};
 ghost use Rattle.linear_spec.specs.declared.record.Record.{Record};
 ghost use Rattle.linear_spec.specs.Rows.{missing_columns_of};
@@ -10,6 +11,8 @@ use crate::columns::mark_missing;
 use crate::looking::read_again;
 use crate::regions::{take_packet, take_row};
 use crate::{Pass, SharedBasis};
+use gf_lanes::add_scaled;
+use gf16::Gf;
 use linear_spec::Packet;
 
 impl SharedBasis {
@@ -24,6 +27,23 @@ impl SharedBasis {
         read_again(&self.table, &mut pass.desk, usize::from(n));
         out.generation = self.params.generation;
         take_packet(pass.desk.words.as_slice(), out);
+    }
+
+    /// Each symbol of record n's packet, times c, is added to the one of `out` at its place. The generation of `out` is not touched.
+    pub fn add_packet(&self, pass: &mut Pass, n: u16, c: Gf, out: &mut Packet)
+        requires pass { IsPassOf self.now pass.old }
+        requires seen { n < length pass.old.seen }
+        requires lengths { HasLengths self.now.parameters out.old }
+        ensures pass { HasKept pass.old pass.new }
+        ensures counts { (pass.new.moves ≡ pass.old.moves) × (pass.new.empty_looks ≡ pass.old.empty_looks) × (pass.new.last_empty ≡ pass.old.last_empty) }
+        ensures generation { out.new.generation ≡ out.old.generation }
+        ensures coeffs { (other : Record) → out.new.coeffs ≡ plus_scaled out.old.coeffs c.0 (slice_index_or pass.old.seen n other).packet.coeffs }
+        ensures payload { (other : Record) → out.new.payload ≡ plus_scaled out.old.payload c.0 (slice_index_or pass.old.seen n other).packet.payload }
+    {
+        table_rows::laws::records();
+        read_again(&self.table, &mut pass.desk, usize::from(n));
+        take_packet(pass.desk.words.as_slice(), &mut pass.desk.row);
+        add_symbols(out, c, &pass.desk.row);
     }
 
     /// Writes the row of record `n` into `out`, with the basis's generation.
@@ -49,4 +69,16 @@ impl SharedBasis {
     {
         mark_missing(&self.table, &mut pass.desk, out);
     }
+}
+
+/// Adds c times a packet's coefficients and payload to another packet of its lengths.
+fn add_symbols(out: &mut Packet, c: Gf, packet: &Packet)
+    requires coeffs { length packet.now.coeffs ≡ length out.old.coeffs }
+    requires payload { length packet.now.payload ≡ length out.old.payload }
+    ensures coeffs { out.new.coeffs ≡ plus_scaled out.old.coeffs c.0 packet.now.coeffs }
+    ensures payload { out.new.payload ≡ plus_scaled out.old.payload c.0 packet.now.payload }
+    ensures generation { out.new.generation ≡ out.old.generation }
+{
+    add_scaled::<16>(out.coeffs.as_mut_slice(), c, packet.coeffs.as_slice());
+    add_scaled::<16>(out.payload.as_mut_slice(), c, packet.payload.as_slice());
 }

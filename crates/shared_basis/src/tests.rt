@@ -8,8 +8,8 @@ ghost use Rattle.shared_basis.specs.Passes.{IsNewPass, IsPassOf};
 
 use super::*;
 use basis_core::{Answer, BasisTrace, CallerOffers, Event, Replayed, merge, replay};
-use gf16::Memory;
-use linear_spec::{Equations, List, Packet, Record, Reply, SymVec};
+use gf16::{Gf, Memory};
+use linear_spec::{Drawn, Equations, List, Packet, Record, Reply, SymVec};
 use std::alloc::Global;
 use std::test::Fail;
 use std::thread::{Threads, join};
@@ -222,6 +222,25 @@ fn recorded(
     Ok(read_back(&basis, &mut pass, read, row))
 }
 
+/// What is drawn from a new basis before and after this packet was recorded, which is then added twice over to `out`.
+fn drawn_and_added(
+    alloc: Global,
+    packet: &Packet,
+    out: &mut Packet,
+) -> Result<(Drawn, Drawn), Memory>
+    requires packet { Fits 2 1 packet.now × (packet.now.generation ≡ 0) }
+    requires out { Fits 2 1 out.old }
+{
+    let (basis, mut pass, _) = small_basis(alloc, 3)?;
+    let before = basis.draw_front(&mut pass, 7);
+    offer(&basis, &mut pass, packet);
+    let after = basis.draw_front(&mut pass, 8);
+    if pass.seen() > 0 {
+        basis.add_packet(&mut pass, 0, Gf(2), out);
+    }
+    Ok((before, after))
+}
+
 /// Whether the record is of this caller's first call, and of the packet with these symbols.
 fn is_record(record: &Record, caller: u32, coeffs: [u16; 2], symbol: u16) -> bool {
     record.caller == caller && record.call == 0 && holds(&record.packet, coeffs, symbol)
@@ -396,5 +415,16 @@ fn a_recorded_packet_is_read_again(rt: HostRuntime) -> Result<(), Fail> {
     let missing = recorded(alloc, &unit, &mut read, &mut row)?;
     assert!(rt; holds(&read, [1, 0], 0x6162) && holds(&row, [1, 0], 0x6162));
     assert!(rt; missing == [false, true]);
+    Ok(())
+}
+
+#[test]
+fn a_pass_draws_and_adds_a_packet(rt: HostRuntime) -> Result<(), Fail> {
+    let alloc = rt.alloc();
+    let offered = packet(alloc, [1, 1], 0x0262)?;
+    let mut out = packet(alloc, [0, 0], 0)?;
+    let drawn = drawn_and_added(alloc, &offered, &mut out)?;
+    assert_eq!(rt; drawn, (Drawn::Nothing, Drawn::Sent { front: 1 }));
+    assert!(rt; out.generation == 0 && holds(&out, [2, 2], 0x04C4));
     Ok(())
 }

@@ -3,7 +3,7 @@ ghost use Rattle.std.specs.Prelude.{◌≡◌, ◌<◌, length, IfOk, IsTrue};
 ghost use Rattle.std.specs.List.{All};
 ghost use Rattle.basis_core.specs.Machine.{FitsEvent};
 ghost use Rattle.linear_spec.specs.Passing.{AreEquations};
-ghost use Rattle.receive_pass.specs.Workers.{AreBases, HavePasses, IsReady};
+ghost use Rattle.receive_pass.specs.Workers.{HavePasses};
 ghost use Rattle.receive_pass.specs.Worked.{AreNumbered, IsForPasses, HasPasses, IsOfFirst};
 
 use super::making::{basis_with, make_equations, make_workers};
