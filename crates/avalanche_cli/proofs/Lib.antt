@@ -1,13 +1,16 @@
+pub mod BasesLemmas
 pub mod CompleteLemmas
 pub mod DeliveryLemmas
 pub mod EndLemmas
 pub mod FetchLemmas
 pub mod FilterLemmas
 pub mod FrameLemmas
+pub mod HeadlineLemmas
 pub mod JudgedLemmas
 pub mod LineLemmas
 pub mod PassingLemmas
 pub mod PieceLemmas
+pub mod RankLemmas
 pub mod ReadingLemmas
 pub mod ReceptionLemmas
 pub mod RunLemmas

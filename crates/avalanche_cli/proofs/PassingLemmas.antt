@@ -1,19 +1,14 @@
 -- Which check a packet fails first, and the packets that pass.
-use Rattle.std.proofs.Common.{◌≡◌, ◌≢◌, ℕ, zero, suc, ◌+◌, ◌<◌, ◌≤◌, Bool, true, false, cond, List, [], ◌∷◌, ◌++◌, Option, Some, None, refl, sym, ap, ◌∙◌, subst, arith, inl, inr}
-use Rattle.std.specs.Prelude.{◌==◌, ◌&&◌, not, find, Result, Ok, Err, IfOk}
+use Rattle.std.proofs.Common.{◌≡◌, ℕ, zero, suc, ◌+◌, ◌<◌, ◌≤◌, Bool, true, false, cond, Option, Some, None, refl, sym, ap, subst, arith, inl, inr}
+use Rattle.std.specs.Prelude.{◌==◌, ◌&&◌, not, find}
 use Rattle.std.specs.List.{range_with_len}
 use Rattle.std.specs.Option.{option_map_or}
-use Rattle.std.proofs.lemmas.List.{append-nil}
-use Rattle.std.proofs.lemmas.List.Elements.{filter-append}
 use Rattle.std.proofs.lemmas.Bool.{cases_eq, ne_eqb, eq-eqb}
 use Rattle.linear_spec.specs.declared.equations.Equations.{Equations}
 use Rattle.linear_spec.specs.declared.packet.Packet.{Packet}
-use Rattle.linear_spec.specs.declared.reply.Reply.{Reply}
-use Rattle.linear_spec.specs.declared.reply.Reply.TheVariants.{FailedCheck, Innovative, NotInnovative, Conflicting}
 use Rattle.gf16.specs.Sums.{dot_of}
 use Rattle.linear_spec.specs.Passing.{IsFirstFailing, Meets, Passes, sums_of, weights_of}
-use Rattle.linear_spec.specs.SequentialBasis.{IsCaseReply, IsReceived, IsReply, recorded}
-use Rattle.avalanche_cli.specs.Packets.{first_failing_check, meets, passes, passing_in}
+use Rattle.avalanche_cli.specs.Packets.{first_failing_check, meets, passes}
 
 -- ---- the first number that passes a test
 
@@ -92,9 +87,6 @@ none_of_passing equations packet is =
 pub passes_of : (equations : Equations) (packet : Packet) → Passes equations packet → passes equations packet ≡ true
 passes_of equations packet is = ap (λ (o : Option ℕ). option_map_or (λ _. false) o true) (none_of_passing equations packet is)
 
-fails_of : (equations : Equations) (packet : Packet) (check : ℕ) → IsFirstFailing equations packet check → passes equations packet ≡ false
-fails_of equations packet check is = ap (λ (o : Option ℕ). option_map_or (λ _. false) o true) (first_of_failing equations packet check is)
-
 -- and the way back
 meets_of : (equations : Equations) (packet : Packet) (check : ℕ) → not (meets equations packet check) ≡ false → Meets equations packet check
 meets_of equations packet check is = decided (dot_of (weights_of equations check) packet.payload) (dot_of packet.coeffs (sums_of equations packet.generation check)) is
@@ -125,66 +117,7 @@ passing_of equations packet is = λ check below.
     let none = none_before (λ c. not (meets equations packet c)) equations.checks 0 check is (omega arith) (omega arith) in
     meets_of equations packet check none
 
--- ---- replies
-
--- of a packet that passes the case is the reply
-pub replied : {E : Type 0} (equations : Equations) (k s : ℕ) (front : List Packet) (packet : Packet) (result : Result Reply E) → k ≡ equations.k → s ≡ equations.s → Passes equations packet → IfOk result (IsCaseReply k s front packet) → IfOk result (IsReply equations front packet)
-replied equations k s front packet (Err e) k_is s_is pass is = tt
-replied equations k s front packet (Ok (FailedCheck check at)) k_is s_is pass is = absurd is
-replied equations k s front packet (Ok (Innovative at)) k_is s_is pass is = (pass, subst (λ (n : ℕ). IsCaseReply n equations.s front packet (Innovative at)) k_is (subst (λ (m : ℕ). IsCaseReply k m front packet (Innovative at)) s_is is))
-replied equations k s front packet (Ok (NotInnovative at)) k_is s_is pass is = (pass, subst (λ (n : ℕ). IsCaseReply n equations.s front packet (NotInnovative at)) k_is (subst (λ (m : ℕ). IsCaseReply k m front packet (NotInnovative at)) s_is is))
-replied equations k s front packet (Ok (Conflicting at)) k_is s_is pass is = (pass, subst (λ (n : ℕ). IsCaseReply n equations.s front packet (Conflicting at)) k_is (subst (λ (m : ℕ). IsCaseReply k m front packet (Conflicting at)) s_is is))
-
 -- ---- the packets of a generation that pass
 
 abbrev pub is_passing : Equations → ℕ → Packet → Bool
 is_passing equations generation packet = (packet.generation == generation) && passes equations packet
-
-passing_more : (equations : Equations) (generation : ℕ) (packets : List Packet) (p : Packet) (b : Bool) → is_passing equations generation p ≡ b → passing_in equations generation (packets ++ p ∷ []) ≡ passing_in equations generation packets ++ cond b (p ∷ []) []
-passing_more equations generation packets p b is =
-    filter-append (is_passing equations generation) packets (p ∷ []) ∙ ap (λ (c : Bool). passing_in equations generation packets ++ cond c (p ∷ []) []) is
-
-here_and : (generation : ℕ) (p : Packet) (b : Bool) → p.generation ≡ generation → (p.generation == generation) && b ≡ b
-here_and generation p b here = rw (eq-eqb p.generation generation here) refl
-
-pub passing_elsewhere : (equations : Equations) (generation : ℕ) (packets : List Packet) (p : Packet) → p.generation ≢ generation → passing_in equations generation (packets ++ p ∷ []) ≡ passing_in equations generation packets
-passing_elsewhere equations generation packets p not_here =
-    let out : is_passing equations generation p ≡ false = ap (λ (b : Bool). b && passes equations p) (ne_eqb p.generation generation not_here) in
-    passing_more equations generation packets p false out ∙ append-nil (passing_in equations generation packets)
-
-pub passing_here : (equations : Equations) (generation : ℕ) (packets : List Packet) (p : Packet) → p.generation ≡ generation → Passes equations p → passing_in equations generation (packets ++ p ∷ []) ≡ passing_in equations generation packets ++ p ∷ []
-passing_here equations generation packets p here pass =
-    passing_more equations generation packets p true (here_and generation p (passes equations p) here ∙ passes_of equations p pass)
-
-pub failing_here : (equations : Equations) (generation : ℕ) (packets : List Packet) (p : Packet) (check : ℕ) → p.generation ≡ generation → IsFirstFailing equations p check → passing_in equations generation (packets ++ p ∷ []) ≡ passing_in equations generation packets
-failing_here equations generation packets p check here fail =
-    passing_more equations generation packets p false (here_and generation p (passes equations p) here ∙ fails_of equations p check fail) ∙ append-nil (passing_in equations generation packets)
-
--- ---- one packet of a generation more
-
--- the law of packets that are received in turn
-abbrev pub MoreLaw : Type 0
-MoreLaw = (k s : ℕ) (packets : List Packet) (replies : List Reply) (kept : List Packet) (packet : Packet) (reply : Reply) → IsReceived k s packets replies kept → IsCaseReply k s kept packet reply → IsReceived k s (packets ++ packet ∷ []) (replies ++ reply ∷ []) (kept ++ recorded packet reply)
-
--- the replies to the packets of a generation that pass, and what is kept of these
-pub record AreKept (equations : Equations) (generation : ℕ) (packets kept : List Packet) : Type 0 where
-  pub replies : List Reply
-  pub received : IsReceived equations.k equations.s (passing_in equations generation packets) replies kept
-
-module _ (more : MoreLaw) (equations : Equations) (generation : ℕ) (packets : List Packet) (replies : List Reply) (kept : List Packet) (p : Packet) (is : IsReceived equations.k equations.s (passing_in equations generation packets) replies kept) (here : p.generation ≡ generation) where
-  passed : (reply : Reply) → Passes equations p → IsCaseReply equations.k equations.s kept p reply → AreKept equations generation (packets ++ p ∷ []) (kept ++ recorded p reply)
-  passed reply pass case = record {
-    replies = replies ++ reply ∷ [];
-    received = subst (λ (l : List Packet). IsReceived equations.k equations.s l (replies ++ reply ∷ []) (kept ++ recorded p reply)) (sym (passing_here equations generation packets p here pass))
-        (more equations.k equations.s (passing_in equations generation packets) replies kept p reply is case);
-  }
-
-  pub kept_more : (reply : Reply) → IsReply equations kept p reply → AreKept equations generation (packets ++ p ∷ []) (kept ++ recorded p reply)
-  kept_more (FailedCheck check at) reply_is = record {
-    replies = replies;
-    received = subst (λ (l : List Packet). IsReceived equations.k equations.s l replies (kept ++ [])) (sym (failing_here equations generation packets p check here reply_is.0))
-        (subst (λ (l : List Packet). IsReceived equations.k equations.s (passing_in equations generation packets) replies l) (sym (append-nil kept)) is);
-  }
-  kept_more (Innovative at) reply_is = passed (Innovative at) reply_is.0 reply_is.1
-  kept_more (NotInnovative at) reply_is = passed (NotInnovative at) reply_is.0 reply_is.1
-  kept_more (Conflicting at) reply_is = passed (Conflicting at) reply_is.0 reply_is.1

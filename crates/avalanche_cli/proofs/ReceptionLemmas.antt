@@ -3,25 +3,49 @@ use Rattle.std.proofs.Common.{◌≡◌, ◌≤◌, ◌<◌, ◌*◌, ℕ, List,
 use Rattle.std.specs.List.{All, AllZip, flat_map}
 use Rattle.std.proofs.Math.Nat.{mul_assoc}
 use Rattle.std.proofs.lemmas.Grind.{div_ceil_times}
-use Rattle.std.proofs.lemmas.List.{append-nil, length-append, length-take-le}
+use Rattle.std.proofs.lemmas.List.{append-nil, length-append, length-map, length-take-le}
 use Rattle.std.proofs.lemmas.List.Concat.{flat_map-append}
-use Rattle.std.proofs.lemmas.List.Elements.{All-append, All-head, All-map, All-nil, All-tail, All-weaker}
+use Rattle.std.proofs.lemmas.List.Elements.{All-append, All-head, All-nil, All-tail}
 use Rattle.linear_spec.specs.declared.packet.Packet.{Packet}
 use Rattle.linear_spec.specs.Symbols.{IsVector, be_bytes_of}
-use Rattle.linear_spec.specs.Packet.{Fits, coefficients_of}
-use Rattle.linear_spec.specs.Solving.{Solves}
-use Rattle.linear_spec.specs.Span.{HasRank}
-use Rattle.plain_basis.specs.Basis.{Basis}
+use Rattle.linear_spec.specs.declared.record.Record.{Record}
+use Rattle.linear_spec.specs.Packet.{Fits}
+use Rattle.linear_spec.specs.SequentialBasis.{packets_of}
+use Rattle.back_subst.specs.Shape.{payload_length}
+use Rattle.shared_basis.specs.declared.params.Closed.{Closed}
 use Rattle.generation.specs.Shape.{Dimensions, IsShape, generations_of, symbols_per_block}
 use Rattle.generation.specs.Blocks.{file_of}
 use Rattle.avalanche_cli.specs.Files.{AreSolvedBy, IsOnlyFileOf, SolveEach}
-use Rattle.avalanche_cli.specs.Reception.{AppendsSolution, AreSolvedBytes, IsFull}
+use Rattle.linear_spec.specs.Rows.{StandForAll}
+use Rattle.linear_spec.specs.Solving.{Solves}
+use Rattle.plain_basis.specs.Solutions.{IsOnlySolution}
+use Rattle.avalanche_cli.specs.Reception.{AppendsSolution, AreSolvedBytes, IsClosedBasis, IsFull}
 
--- no rank is above the number of coefficients
-pub at_most : (k s rank : ℕ) (packets : List Packet) → ((n : ℕ) (vectors : List (List ℕ)) (r : ℕ) → All (IsVector n) vectors → HasRank n vectors r → r ≤ n) → All (Fits k s) packets → HasRank k (coefficients_of packets) rank → rank ≤ k
-at_most k s rank packets law fit is =
-    let vectors : All (IsVector k) (coefficients_of packets) = All-map (IsVector k) (λ (p : Packet). p.coeffs) packets (All-weaker (Fits k s) (λ p. IsVector k p.coeffs) (λ p fits. fits.coeffs) packets fit) in
-    law k (coefficients_of packets) rank vectors is
+-- the payloads of records have their common length
+pub payload_is : (k s : ℕ) (records : List Record) → 0 < length records → All (Fits k s) (packets_of records) → payload_length records ≡ s
+payload_is k s [] some fit = absurd (omega arith)
+payload_is k s (first ∷ records) some fit = (All-head (Fits k s) first.packet (packets_of records) fit).payload.count
+
+-- the rows of a full basis, measured by its records
+pub own_stand : (k s : ℕ) (basis : Closed) → 0 < k → IsClosedBasis k s basis → IsFull k basis → StandForAll (length basis.records.items) (payload_length basis.records.items) (packets_of basis.records.items) basis.rows.items
+own_stand k s basis some is full =
+    let records = basis.records.items in
+    let payload : payload_length records ≡ s = payload_is k s records (omega arith) is.fit in
+    subst (λ n. StandForAll n (payload_length records) (packets_of records) basis.rows.items) (sym full)
+    (subst (λ m. StandForAll k m (packets_of records) basis.rows.items) (sym payload) is.stand)
+
+-- its solution, measured by the shape
+pub appended_of : (k s : ℕ) (basis : Closed) (blocks : List (List ℕ)) (before after : List ℕ) → 0 < k → IsClosedBasis k s basis → IsFull k basis → Solves (length basis.records.items) (payload_length basis.records.items) (packets_of basis.records.items) blocks → IsOnlySolution (length basis.records.items) (payload_length basis.records.items) (packets_of basis.records.items) blocks → after ≡ before ++ flat_map be_bytes_of blocks → AppendsSolution k s basis before after
+appended_of k s basis blocks before after some is full solves only appended =
+    let records = basis.records.items in
+    let own = packets_of records in
+    let payload : payload_length records ≡ s = payload_is k s records (omega arith) is.fit in
+    record {
+      blocks = blocks;
+      solves = subst (λ n. Solves n s own blocks) full (subst (λ m. Solves (length records) m own blocks) payload solves);
+      only = subst (λ n. IsOnlySolution n s own blocks) full (subst (λ m. IsOnlySolution (length records) m own blocks) payload only);
+      appended = appended;
+    }
 
 -- ---- pairs of lists
 
@@ -56,18 +80,21 @@ joined_of blocks = flat_map (λ generation. generation) blocks
 joined_more : (blocks : List (List (List ℕ))) (more : List (List ℕ)) → joined_of (blocks ++ more ∷ []) ≡ joined_of blocks ++ more
 joined_more blocks more = flat_map-append (λ (l : List (List ℕ)). l) blocks (more ∷ []) ∙ ap (λ (l : List (List ℕ)). joined_of blocks ++ l) (append-nil more)
 
-pub solved_more : (k s : ℕ) (packets : List (List Packet)) (basis : Basis) (before after : List ℕ) → basis.k ≡ k → basis.s ≡ s → IsFull k basis → AreSolvedBytes k s packets before → AppendsSolution basis before after → AreSolvedBytes k s (packets ++ basis.packets ∷ []) after
-solved_more k s packets basis before after k_is s_is full are appends = record {
-  blocks = are.blocks ++ appends.blocks ∷ [];
-  solve = zip_more (AreSolvedBy k s) packets are.blocks basis.packets appends.blocks are.solve (record { full = full; solves = subst (λ (n : ℕ). Solves n s basis.packets appends.blocks) k_is (subst (λ (m : ℕ). Solves basis.k m basis.packets appends.blocks) s_is appends.solves) });
-  only = λ others solve.
-      let last = zip_last (AreSolvedBy k s) packets basis.packets others solve in
-      let front : last.ys ≡ are.blocks = are.only last.ys last.all in
-      let here : last.y ≡ appends.blocks = appends.only last.y (subst (λ (n : ℕ). Solves n basis.s basis.packets last.y) (sym k_is) (subst (λ (m : ℕ). Solves k m basis.packets last.y) (sym s_is) last.here.solves)) in
-      last.is ∙ ap (λ (l : List (List (List ℕ))). l ++ last.y ∷ []) front ∙ ap (λ (b : List (List ℕ)). are.blocks ++ b ∷ []) here;
-  bytes_are = appends.appended ∙ ap (λ (l : List ℕ). l ++ flat_map be_bytes_of appends.blocks) are.bytes_are
-      ∙ sym (flat_map-append be_bytes_of (joined_of are.blocks) appends.blocks) ∙ ap (flat_map be_bytes_of) (sym (joined_more are.blocks appends.blocks));
-}
+pub solved_more : (k s : ℕ) (packets : List (List Packet)) (basis : Closed) (before after : List ℕ) → IsFull k basis → AreSolvedBytes k s packets before → AppendsSolution k s basis before after → AreSolvedBytes k s (packets ++ packets_of basis.records.items ∷ []) after
+solved_more k s packets basis before after full are appends =
+    let own = packets_of basis.records.items in
+    let counted : length own ≡ k = length-map basis.records.items (λ (r : Record). r.packet) ∙ full in
+    record {
+      blocks = are.blocks ++ appends.blocks ∷ [];
+      solve = zip_more (AreSolvedBy k s) packets are.blocks own appends.blocks are.solve (record { full = counted; solves = appends.solves });
+      only = λ others solve.
+          let last = zip_last (AreSolvedBy k s) packets own others solve in
+          let front : last.ys ≡ are.blocks = are.only last.ys last.all in
+          let here : last.y ≡ appends.blocks = appends.only last.y last.here.solves in
+          last.is ∙ ap (λ (l : List (List (List ℕ))). l ++ last.y ∷ []) front ∙ ap (λ (b : List (List ℕ)). are.blocks ++ b ∷ []) here;
+      bytes_are = appends.appended ∙ ap (λ (l : List ℕ). l ++ flat_map be_bytes_of appends.blocks) are.bytes_are
+          ∙ sym (flat_map-append be_bytes_of (joined_of are.blocks) appends.blocks) ∙ ap (flat_map be_bytes_of) (sym (joined_more are.blocks appends.blocks));
+    }
 
 -- ---- the length of the file
 

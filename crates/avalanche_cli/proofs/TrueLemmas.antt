@@ -1,6 +1,6 @@
 -- Packets that are all true to some blocks: the only file of a legal trace is then the file of these blocks.
 use Rattle.std.proofs.Common.{◌≡◌, ℕ, zero, suc, ◌+◌, ◌<◌, Bool, true, false, cond, List, [], ◌∷◌, ◌++◌, length, map, get_or, Some, refl, sym, ap, ◌∙◌, subst, arith, inl, inr}
-use Rattle.std.specs.Prelude.{◌&&◌}
+use Rattle.std.specs.Prelude.{◌%◌, ◌==◌, ◌&&◌}
 use Rattle.std.specs.List.{All, AllByRecursion, AllZip, filter, flat_map, range_with_len}
 use Rattle.std.proofs.lemmas.List.{get_or-map, length-map}
 use Rattle.std.proofs.lemmas.List.FromFn.{get_or-map-range_with_len, length-map-range_with_len}
@@ -18,12 +18,15 @@ use Rattle.basis_core.specs.Calls.{KeptCall, KeptOffer, KeptDraw, recorded_at_re
 use Rattle.basis_core.specs.Merge.{Given}
 use Rattle.basis_core.specs.Legal.{IsLegalHistory, IsRecordedIn}
 use Rattle.basis_core.specs.Run.{AreInnovative, AreInnovativeFrom}
+use Rattle.receive_pass.specs.declared.worker.TaggedPacket.{TaggedPacket}
+use Rattle.receive_pass.specs.Workers.{AreOffersOf}
+use Rattle.shared_reception.specs.Dealing.{dealt_to, given_below, tagged_from}
 use Rattle.generation.specs.Shape.{generations_of, symbols_per_block}
 use Rattle.generation.specs.Blocks.{file_of}
 use Rattle.packet_wire.specs.Stream.{Contents}
 use Rattle.avalanche_cli.specs.Files.{AreSolvedBy, IsOnlyFileOf, SolveEach, recorded_packets, source_file}
 use Rattle.avalanche_cli.specs.Packets.{AreTrueTo, equations_of}
-use Rattle.avalanche_cli.specs.Trace.{Indexed, indexed_from, is_dealt, dealt_to, AreOffersOf, given_below, IsLegalBasis, IsLegalFetch}
+use Rattle.avalanche_cli.specs.Trace.{IsLegalBasis, IsLegalFetch}
 use Rattle.avalanche_cli.specs.declared.trace.Trace.{Trace}
 use Rattle.avalanche_cli.proofs.PassingLemmas.{is_passing, passes_of}
 use Rattle.avalanche_cli.proofs.TraceLemmas.{given_here, no_trace}
@@ -46,48 +49,56 @@ same_packet offered packet (Innovative at) is = cc
 same_packet offered packet (NotInnovative at) is = absurd cc
 same_packet offered packet (Conflicting at) is = absurd cc
 
-of_offered : (P : Packet → Type 0) (dealt : List Indexed) (calls : List KeptCall) (packet : Packet) → AreOffersOf dealt calls → AllByRecursion (λ d. P d.packet) dealt → IsRecordedIn calls packet → P packet
+of_offered : (P : Packet → Type 0) (dealt : List TaggedPacket) (calls : List KeptCall) (packet : Packet) → AreOffersOf dealt calls → AllByRecursion (λ d. P d.packet) dealt → IsRecordedIn calls packet → P packet
 of_offered P [] [] packet are all is = absurd is
 of_offered P [] (call ∷ calls) packet are all is = absurd are
 of_offered P (first ∷ dealt) [] packet are all is = absurd are
 of_offered P (first ∷ dealt) (KeptDraw tag drawn ∷ calls) packet are all is = absurd are
-of_offered P (first ∷ dealt) (KeptOffer tag offered reply ∷ calls) packet are all (inl is) = subst P (sym are.1.0 ∙ same_packet offered packet reply is) all.0
-of_offered P (first ∷ dealt) (KeptOffer tag offered reply ∷ calls) packet are all (inr is) = of_offered P dealt calls packet are.1.1 all.1 is
+of_offered P (first ∷ dealt) (KeptOffer tag offered reply ∷ calls) packet are all (inl is) = subst P (sym are.1 ∙ same_packet offered packet reply is) all.0
+of_offered P (first ∷ dealt) (KeptOffer tag offered reply ∷ calls) packet are all (inr is) = of_offered P dealt calls packet are.2 all.1 is
 
-kept_head : {X : Type 0} (P : X → Type 0) (c : Bool) (x : X) (xs : List X) → c ≡ true → AllByRecursion P (cond c (x ∷ xs) xs) → P x
+pub kept_head : {X : Type 0} (P : X → Type 0) (c : Bool) (x : X) (xs : List X) → c ≡ true → AllByRecursion P (cond c (x ∷ xs) xs) → P x
 kept_head P true x xs is all = all.0
 kept_head P false x xs is all = absurd cc
 
-kept_tail : {X : Type 0} (P : X → Type 0) (c : Bool) (x : X) (xs : List X) → AllByRecursion P (cond c (x ∷ xs) xs) → AllByRecursion P xs
+pub kept_tail : {X : Type 0} (P : X → Type 0) (c : Bool) (x : X) (xs : List X) → AllByRecursion P (cond c (x ∷ xs) xs) → AllByRecursion P xs
 kept_tail P true x xs all = all.1
 kept_tail P false x xs all = all
 
-kept_more : {X : Type 0} (P : X → Type 0) (c : Bool) (x : X) (xs : List X) → (c ≡ true → P x) → AllByRecursion P xs → AllByRecursion P (cond c (x ∷ xs) xs)
+pub kept_more : {X : Type 0} (P : X → Type 0) (c : Bool) (x : X) (xs : List X) → (c ≡ true → P x) → AllByRecursion P xs → AllByRecursion P (cond c (x ∷ xs) xs)
 kept_more P true x xs here all = (here refl, all)
 kept_more P false x xs here all = all
-
-and_right : (a b : Bool) → a && b ≡ true → b ≡ true
-and_right true b is = is
-and_right false b is = absurd cc
 
 and_both : (a b : Bool) → a ≡ true → b ≡ true → a && b ≡ true
 and_both true b a_is b_is = b_is
 and_both false b a_is b_is = absurd cc
 
-of_dealt : (P : Packet → Type 0) (equations : Equations) (receivers receiver generation : ℕ) (packets : List Packet) (index : ℕ) → AllByRecursion P (filter (is_passing equations generation) packets) → AllByRecursion (λ d. Passes equations d.packet → P d.packet) (filter (is_dealt receivers receiver generation) (indexed_from packets index))
-of_dealt P equations receivers receiver generation [] index all = tt
-of_dealt P equations receivers receiver generation (first ∷ packets) index all =
-    let dealt : Indexed = record { index = index; packet = first } in
+-- ---- of packets that a receiver gets, those of a generation: they are kept by two tests
+
+abbrev pub is_taken : ℕ → ℕ → TaggedPacket → Bool
+is_taken receivers receiver tagged = tagged.tag % receivers == receiver
+
+abbrev pub is_within : ℕ → TaggedPacket → Bool
+is_within generation tagged = tagged.packet.generation == generation
+
+pub twice_more : (P : TaggedPacket → Type 0) (test : TaggedPacket → Bool) (c : Bool) (x : TaggedPacket) (xs : List TaggedPacket) → (test x ≡ true → P x) → AllByRecursion P (filter test xs) → AllByRecursion P (filter test (cond c (x ∷ xs) xs))
+twice_more P test true x xs here all = kept_more P (test x) x (filter test xs) here all
+twice_more P test false x xs here all = all
+
+of_dealt : (P : Packet → Type 0) (equations : Equations) (receivers receiver generation : ℕ) (packets : List Packet) (tag : ℕ) → AllByRecursion P (filter (is_passing equations generation) packets) → AllByRecursion (λ d. Passes equations d.packet → P d.packet) (filter (is_within generation) (filter (is_taken receivers receiver) (tagged_from packets tag)))
+of_dealt P equations receivers receiver generation [] tag all = tt
+of_dealt P equations receivers receiver generation (first ∷ packets) tag all =
+    let dealt : TaggedPacket = record { tag = tag; packet = first } in
     let rest = filter (is_passing equations generation) packets in
-    kept_more (λ (d : Indexed). Passes equations d.packet → P d.packet) (is_dealt receivers receiver generation dealt) dealt (filter (is_dealt receivers receiver generation) (indexed_from packets (index + 1)))
-    (λ is pass. kept_head P (is_passing equations generation first) first rest (and_both _ _ (and_right _ _ is) (passes_of equations first pass)) all)
-    (of_dealt P equations receivers receiver generation packets (index + 1) (kept_tail P (is_passing equations generation first) first rest all))
+    twice_more (λ (d : TaggedPacket). Passes equations d.packet → P d.packet) (is_within generation) (is_taken receivers receiver dealt) dealt (filter (is_taken receivers receiver) (tagged_from packets (tag + 1)))
+    (λ is pass. kept_head P (is_passing equations generation first) first rest (and_both _ _ is (passes_of equations first pass)) all)
+    (of_dealt P equations receivers receiver generation packets (tag + 1) (kept_tail P (is_passing equations generation first) first rest all))
 
 all_pass : (equations : Equations) (records : List Record) (front : List Packet) → AreInnovativeFrom equations (packets_of records) front → AllByRecursion (λ (r : Record). Passes equations r.packet) records
 all_pass equations [] front are = tt
 all_pass equations (first ∷ records) front are = (are.0.0, all_pass equations records (front ++ first.packet ∷ []) are.1)
 
-of_records : RecordedLaw → InnovativeLaw → (P : Packet → Type 0) (equations : Equations) (receivers : ℕ) (packets : List Packet) (generation : ℕ) (basis : BasisTrace) → IsLegalBasis equations receivers packets generation basis → All P (filter (is_passing equations generation) packets) → All P (packets_of basis.records.items)
+pub of_records : RecordedLaw → InnovativeLaw → (P : Packet → Type 0) (equations : Equations) (receivers : ℕ) (packets : List Packet) (generation : ℕ) (basis : BasisTrace) → IsLegalBasis equations receivers packets generation basis → All P (filter (is_passing equations generation) packets) → All P (packets_of basis.records.items)
 of_records recorded innovative P equations receivers packets generation basis is all =
     let records = basis.records.items in
     let given = given_below receivers is.kept in

@@ -4,10 +4,10 @@ pub mod End
 pub mod Fetch
 pub mod FetchSteps
 pub mod Files
+pub mod Headline
 pub mod Lines
 pub mod Packets
 pub mod Reading
-pub mod Receiving
 pub mod Reception
 pub mod Run
 pub mod RunSteps

@@ -1,14 +1,18 @@
 -- What the steps of a reception know of a stream's packets once they are received: for its private functions.
 -- bases: those of all generations, in order. packets: a list for each generation.
-use Rattle.std.specs.Prelude.{◌≡◌, ◌≢◌, ◌<◌, ℕ, List, ◌++◌, length, map, take, slice_index_or, Result, Ok, Err}
+use Rattle.std.specs.Prelude.{◌≡◌, ◌≢◌, ◌+◌, ◌<◌, ◌≤◌, ℕ, List, [], ◌∷◌, ◌++◌, length, map, take, slice_index_or, Result, Ok, Err}
 use Rattle.std.specs.List.{All, flat_map}
 use Rattle.sha2.specs.Sha256.{sha256}
 use Rattle.linear_spec.specs.List.{ListValue}
 use Rattle.linear_spec.specs.declared.packet.Packet.{Packet}
+use Rattle.linear_spec.specs.Packet.{Fits}
+use Rattle.linear_spec.specs.Rows.{StandForAll}
+use Rattle.linear_spec.specs.SequentialBasis.{packets_of}
 use Rattle.linear_spec.specs.Solving.{Solves}
 use Rattle.linear_spec.specs.Symbols.{be_bytes_of}
-use Rattle.plain_basis.specs.Basis.{Basis}
 use Rattle.plain_basis.specs.Solutions.{IsOnlySolution}
+use Rattle.basis_core.specs.declared.trace.BasisTrace.{BasisTrace}
+use Rattle.shared_basis.specs.declared.params.Closed.{Closed}
 use Rattle.generation.specs.Shape.{Dimensions, IsShape, generations_of, symbols_per_block}
 use Rattle.packet_wire.specs.declared.manifest.Manifest.{Manifest}
 use Rattle.packet_wire.specs.Stream.{Contents}
@@ -44,38 +48,47 @@ IsJudged contents trace (Err Memory) = Unit {0}
 -- ---- what the bases tell
 
 -- the packets that each basis recorded
-abbrev pub packets_in : List Basis → List (List Packet)
-packets_in bases = map (λ basis. basis.packets) bases
+abbrev pub packets_in : List Closed → List (List Packet)
+packets_in bases = map (λ basis. packets_of basis.records.items) bases
 
--- a basis for each generation of the shape, for packets of its lengths
-pub record HaveShape (shape : Dimensions) (bases : List Basis) : Type 0 where
+-- a closed basis for packets of k coefficients and s symbols: its rows stand for its records, which are k at most
+pub record IsClosedBasis (k s : ℕ) (basis : Closed) : Type 0 where
+  pub fit : All (Fits k s) (packets_of basis.records.items)
+  pub stand : StandForAll k s (packets_of basis.records.items) basis.rows.items
+  pub at_most : length basis.records.items ≤ k
+
+-- a closed basis for each generation of the shape, for packets of its lengths
+pub record HaveShape (shape : Dimensions) (bases : List Closed) : Type 0 where
   pub is_shape : IsShape shape
   pub count : length bases ≡ generations_of shape
-  pub k : All (λ basis. basis.k ≡ shape.k) bases
-  pub s : All (λ basis. basis.s ≡ symbols_per_block shape) bases
+  pub each : All (IsClosedBasis shape.k (symbols_per_block shape)) bases
+
+-- the basis has k records at most
+abbrev pub HasAtMost : ℕ → Closed → Type 0
+HasAtMost k basis = length basis.records.items ≤ k
 
 -- the basis has k records
-abbrev pub IsFull : ℕ → Basis → Type 0
-IsFull k basis = length basis.packets ≡ k
+abbrev pub IsFull : ℕ → Closed → Type 0
+IsFull k basis = length basis.records.items ≡ k
 
 -- the first basis that has fewer records than k, and their number
-pub record IsFirstLow (k : ℕ) (bases : List Basis) (generation rank : ℕ) : Type 0 where
+pub record IsFirstLow (k : ℕ) (bases : List Closed) (generation rank : ℕ) : Type 0 where
   pub below : generation < length bases
-  pub rank_is : (other : Basis) → rank ≡ length (slice_index_or bases generation other).packets
+  pub rank_is : (other : Closed) → rank ≡ length (slice_index_or bases generation other).records.items
   pub low : rank < k
   pub full_before : All (IsFull k) (take generation bases)
 
 -- why not all bases are full
-abbrev pub IsShort : ℕ → List Basis → NoFile → Type 0
+abbrev pub IsShort : ℕ → List Closed → NoFile → Type 0
 IsShort k bases (Incomplete generation rank) = IsFirstLow k bases generation rank
 IsShort k bases (Mismatch found) = ⊥
 IsShort k bases Memory = ⊥
 
 -- to some bytes those of the only blocks that solve a basis were appended
-pub record AppendsSolution (basis : Basis) (before after : List ℕ) : Type 0 where
+pub record AppendsSolution (k s : ℕ) (basis : Closed) (before after : List ℕ) : Type 0 where
   pub blocks : List (List ℕ)
-  pub solves : Solves basis.k basis.s basis.packets blocks
-  pub only : IsOnlySolution basis.k basis.s basis.packets blocks
+  pub solves : Solves k s (packets_of basis.records.items) blocks
+  pub only : IsOnlySolution k s (packets_of basis.records.items) blocks
   pub appended : after ≡ before ++ flat_map be_bytes_of blocks
 
 -- the bytes of the only blocks that solve these packets
@@ -86,7 +99,7 @@ pub record AreSolvedBytes (k s : ℕ) (packets : List (List Packet)) (bytes : Li
   pub bytes_are : bytes ≡ flat_map be_bytes_of (flat_map (λ generation. generation) blocks)
 
 -- all bases are full, and their only file has this digest, which is not the manifest's
-pub record HaveOtherDigest (manifest : Manifest) (bases : List Basis) (found : List ℕ) : Type 0 where
+pub record HaveOtherDigest (manifest : Manifest) (bases : List Closed) (found : List ℕ) : Type 0 where
   pub full : All (IsFull manifest.shape.k) bases
   pub file : List ℕ
   pub is_file : IsOnlyFileOf manifest.shape (packets_in bases) file
@@ -94,7 +107,18 @@ pub record HaveOtherDigest (manifest : Manifest) (bases : List Basis) (found : L
   pub differs : found ≢ manifest.digest
 
 -- why the bases give no file with the manifest's digest
-abbrev pub IsStop : Manifest → List Basis → NoFile → Type 0
+abbrev pub IsStop : Manifest → List Closed → NoFile → Type 0
 IsStop manifest bases (Incomplete generation rank) = IsFirstLow manifest.shape.k bases generation rank
 IsStop manifest bases (Mismatch found) = HaveOtherDigest manifest bases found
 IsStop manifest bases Memory = Unit {0}
+
+-- ---- what is kept of the bases
+
+-- a closed basis as a trace has it: peer 0's, of this generation
+abbrev pub trace_of : ℕ → Closed → BasisTrace
+trace_of generation basis = record { peer = 0; generation = generation; records = basis.records; callers = basis.callers }
+
+-- those of closed bases, of the generations from this one on
+abbrev pub traces_of : ℕ → List Closed → List BasisTrace
+traces_of generation [] = []
+traces_of generation (basis ∷ bases) = trace_of generation basis ∷ traces_of (generation + 1) bases

@@ -1,49 +1,19 @@
 -- Legal traces: what a fetch keeps of the calls on its bases.
--- receivers: the number of callers that receive, numbered from 0. index: the place of a packet in its stream, from 0, over
--- all generations. kept: the calls of a receiver, each offer with its packet.
-use Rattle.std.specs.Prelude.{◌≡◌, ℕ, ◌+◌, ◌<◌, ◌%◌, Bool, ◌==◌, ◌&&◌, cond, nat_lt, List, [], ◌∷◌, length, map, Some, None, slice_index_or}
-use Rattle.std.specs.List.{All, filter}
+-- receivers: the number of callers that receive, numbered from 0. kept: the calls of a receiver, each offer with its packet.
+use Rattle.std.specs.Prelude.{◌≡◌, ℕ, ◌<◌, List, [], length, map, slice_index_or}
+use Rattle.std.specs.List.{All}
 use Rattle.linear_spec.specs.declared.equations.Equations.{Equations}
 use Rattle.linear_spec.specs.declared.packet.Packet.{Packet}
 use Rattle.basis_core.specs.declared.trace.BasisTrace.{BasisTrace}
 use Rattle.basis_core.specs.declared.trace.CallerTrace.{CallerTrace}
-use Rattle.basis_core.specs.Calls.{KeptCall, KeptOffer, KeptDraw, call_of}
-use Rattle.basis_core.specs.Merge.{Given}
+use Rattle.basis_core.specs.Calls.{KeptCall, call_of}
 use Rattle.basis_core.specs.Legal.{IsLegalHistory}
+use Rattle.receive_pass.specs.Workers.{AreOffersOf}
+use Rattle.shared_reception.specs.Dealing.{dealt_to, given_below}
 use Rattle.generation.specs.Shape.{generations_of}
 use Rattle.packet_wire.specs.Stream.{Contents}
 use Rattle.avalanche_cli.specs.Packets.{equations_of}
 use Rattle.avalanche_cli.specs.declared.trace.Trace.{Trace}
-
--- a packet with its index
-pub record Indexed : Type 0 where
-  pub index : ℕ
-  pub packet : Packet
-
--- packets with their indices, counted on from this one
-abbrev pub indexed_from : List Packet → ℕ → List Indexed
-indexed_from [] index = []
-indexed_from (packet ∷ packets) index = record { index = index; packet = packet } ∷ indexed_from packets (index + 1)
-
--- whether this receiver gets the packet on this generation's basis: by their indices packets go to the receivers in turn
-abbrev pub is_dealt : ℕ → ℕ → ℕ → Indexed → Bool
-is_dealt receivers receiver generation dealt = (dealt.index % receivers == receiver) && (dealt.packet.generation == generation)
-
--- the packets of a generation that a receiver gets, in order
-abbrev pub dealt_to : ℕ → ℕ → ℕ → List Packet → List Indexed
-dealt_to receivers receiver generation packets = filter (is_dealt receivers receiver generation) (indexed_from packets 0)
-
--- the calls are the offers of these packets, in order, each with the packet's index as its tag
-abbrev pub AreOffersOf : List Indexed → List KeptCall → Type 0
-AreOffersOf [] [] = Unit {0}
-AreOffersOf [] (call ∷ calls) = ⊥
-AreOffersOf (first ∷ dealt) [] = ⊥
-AreOffersOf (first ∷ dealt) (KeptDraw tag drawn ∷ calls) = ⊥
-AreOffersOf (first ∷ dealt) (KeptOffer tag packet reply ∷ calls) = (tag ≡ first.index) × ((packet ≡ first.packet) × AreOffersOf dealt calls)
-
--- given are the calls of the callers with numbers below this count
-abbrev pub given_below : ℕ → (ℕ → List KeptCall) → Given
-given_below count kept number = cond (nat_lt number count) (Some (kept number)) None
 
 -- the basis of a generation once the packets were received: it lists each receiver by its number, with its offers of the
 -- packets that it got and with no other calls; every record is a listed receiver's; and the records and all these calls are

@@ -11,14 +11,19 @@ ghost use Rattle.avalanche_cli.specs.Run.{IsKeptFetch};
 use crate::delivery::{Delivery, deliver};
 use crate::reading::{NoStream, read_stream};
 use crate::reception::{NoFile, Reception, receive};
+use crate::stream::Stream;
 use crate::{End, Outcome, Trace};
 use avalanche_args::FetchWords;
+use receive_pass::Gate;
 use std::alloc::Global;
+use std::thread::Threads;
 use swarm_io::{Sink, Source};
 
 /// Reads a stream, receives its packets, and writes its file.
-pub(crate) fn fetch<I: Source, O: Sink>(
+pub(crate) fn fetch<R: Threads + Sync, G: Gate, I: Source, O: Sink>(
+    rt: &R,
     alloc: Global,
+    gate: &G,
     words: &FetchWords,
     input: &mut I,
     output: &mut O,
@@ -35,14 +40,20 @@ pub(crate) fn fetch<I: Source, O: Sink>(
     ensures output_wants { O.wants output.old ≤ O.wants output.new }
     ensures taken { TakesAtMost (I.remaining input.old) (I.remaining input.new) (stream_limit + 1) }
 {
-    match received(alloc, words.receivers, input) {
+    match received(rt, alloc, gate, words.receivers, input) {
         Ok(reception) => finished(alloc, reception, output),
         Err(reason) => Outcome::without_trace(alloc, End::from(reason)),
     }
 }
 
 /// Reads the stream that the input has, and receives its packets.
-fn received<I: Source>(alloc: Global, receivers: u32, input: &mut I) -> Result<Reception, NoStream>
+fn received<R: Threads + Sync, G: Gate, I: Source>(
+    rt: &R,
+    alloc: Global,
+    gate: &G,
+    receivers: u32,
+    input: &mut I,
+) -> Result<Reception, NoStream>
     requires some { 1 ≤ receivers }
     requires few { receivers ≤ 8 }
     ensures received { IfOk result (λ r. IsReceptionOf receivers (I.remaining input.old) r.trace r.file) }
@@ -52,14 +63,12 @@ fn received<I: Source>(alloc: Global, receivers: u32, input: &mut I) -> Result<R
     ensures taken { TakesAtMost (I.remaining input.old) (I.remaining input.new) (stream_limit + 1) }
     ensures faults { I.faults input.old ≤ I.faults input.new }
 {
-    let stream = read_stream(alloc, input)?;
-    Ok(receive(
-        alloc,
-        &stream.manifest,
-        &stream.ticket,
-        &stream.packets,
-        receivers,
-    )?)
+    let Stream {
+        manifest,
+        ticket,
+        packets,
+    } = read_stream(alloc, input)?;
+    Ok(receive(rt, alloc, gate, &manifest, &ticket, packets, receivers)?)
 }
 
 /// Writes the file of received packets where they have one.

@@ -1,13 +1,18 @@
 //! Laws over the definitions alone: each is the contract of a function that does nothing but take other laws.
 ghost use Rattle.std.specs.Prelude.{◌≡◌, ◌↔◌, ℕ, List, Some, IsTrue};
+ghost use Rattle.std.specs.List.{All};
 ghost use Rattle.linear_spec.specs.declared.equations.Equations.{Equations};
 ghost use Rattle.linear_spec.specs.declared.packet.Packet.{Packet};
+ghost use Rattle.linear_spec.specs.Packet.{Fits};
 ghost use Rattle.linear_spec.specs.Passing.{IsFirstFailing, Passes};
+ghost use Rattle.basis_core.specs.declared.trace.BasisTrace.{BasisTrace};
+ghost use Rattle.generation.specs.Shape.{symbols_per_block};
 ghost use Rattle.packet_wire.specs.Stream.{Contents};
 ghost use Rattle.avalanche_cli.specs.declared.trace.Trace.{Trace};
 ghost use Rattle.avalanche_cli.specs.Files.{IsFirstIncomplete, IsOnlyFileOf, recorded_packets, source_file};
-ghost use Rattle.avalanche_cli.specs.Packets.{AreTrueTo, HasFullRank, first_failing_check, passes};
-ghost use Rattle.avalanche_cli.specs.Trace.{IsLegalFetch};
+ghost use Rattle.avalanche_cli.specs.Headline.{IsOneHistory};
+ghost use Rattle.avalanche_cli.specs.Packets.{AreTrueTo, HasFullRank, equations_of, first_failing_check, passes};
+ghost use Rattle.avalanche_cli.specs.Trace.{IsLegalBasis, IsLegalFetch};
 
 mod seeding;
 
@@ -39,4 +44,16 @@ pub fn true_packets()
 {
     basis_core::laws::callers();
     basis_core::laws::records();
+}
+
+/// What the headline says of a basis follows from a legal one, where the stream's packets fit.
+pub fn one_history()
+    ensures { (receivers generation : ℕ) (contents : Contents) (basis : BasisTrace)
+        → All (Fits contents.manifest.shape.k (symbols_per_block contents.manifest.shape)) contents.packets
+        → IsLegalBasis (equations_of contents) receivers contents.packets generation basis
+        → IsOneHistory (equations_of contents) receivers contents.packets generation basis }
+{
+    basis_core::laws::callers();
+    basis_core::laws::records();
+    linear_spec::laws::one_case();
 }

@@ -9,7 +9,6 @@ mod line;
 mod outcome;
 mod program;
 mod reading;
-mod receivers;
 mod reception;
 mod seed;
 mod stream;
@@ -22,6 +21,7 @@ use line::write_line;
 use linear_spec::Words;
 pub use outcome::Outcome;
 pub use program::run;
+use receive_pass::NoGate;
 use std::env;
 use std::io::{self, ErrorKind};
 use std::process::ExitCode;
@@ -38,6 +38,7 @@ fn main(rt: HostRuntime) -> ExitCode {
             run(
                 &rt,
                 rt.alloc(),
+                &NoGate,
                 &words,
                 &mut input,
                 &mut output,

@@ -13,6 +13,7 @@ ghost use Rattle.avalanche_cli.specs.Packets.{AreTrueTo, HasFullRank};
 ghost use Rattle.avalanche_cli.specs.EmptyTrace.{IsEmptyTrace};
 ghost use Rattle.avalanche_cli.specs.Fetch.{Gives, GivesPrefix, GivesSome, HasOtherDigest, HasReadSound, IsFetchable, IsTooLong, IsUnfetchable, LacksRank, stream_limit};
 ghost use Rattle.avalanche_cli.specs.Seed.{GivesStream, GivesStreamPrefix, IsSeedable, seed_limit, stream_of_seed};
+ghost use Rattle.avalanche_cli.specs.Headline.{IsHeadline};
 ghost use Rattle.avalanche_cli.specs.Lines.{line_of};
 ghost use Rattle.avalanche_cli.specs.Run.{IfFetch, IfSeed, IsFetchThat, IsKept, IsRefusal, most_read};
 ghost use Rattle.avalanche_cli.specs.RunSteps.{IsRun};
@@ -23,6 +24,7 @@ use crate::seed::seed;
 use crate::{End, Outcome, laws};
 use avalanche_args::{Command, read_words};
 use linear_spec::Words;
+use receive_pass::Gate;
 use std::alloc::Global;
 use std::thread::Threads;
 use swarm_io::{Sink, Source};
@@ -30,10 +32,12 @@ use swarm_io::{Sink, Source};
 /// Runs the command of the words: `seed` reads a file and writes its stream, `fetch` reads a stream and writes its file.
 ///
 /// `words` are those after the program's name. For every end but Done one line is written to `errors`; that it was refused
-/// changes nothing. No thread is started so far.
-pub fn run<R: Threads + Sync, I: Source, O: Sink, E: Sink>(
-    _rt: &R,
+/// changes nothing. A `fetch` lets its receivers work in threads of their own where threads can be made, and each passes the gate
+/// before and after each of its calls.
+pub fn run<R: Threads + Sync, G: Gate, I: Source, O: Sink, E: Sink>(
+    rt: &R,
     alloc: Global,
+    gate: &G,
     words: &Words,
     input: &mut I,
     output: &mut O,
@@ -43,6 +47,11 @@ pub fn run<R: Threads + Sync, I: Source, O: Sink, E: Sink>(
     ensures usage { (class : word_class) → result.end ≡ End.Usage class → command_of words.now ≡ Err class }
     ensures no_command { (class : word_class) → command_of words.now ≡ Err class
         → ((result.end ≡ End.Usage class) ⊎ (result.end ≡ End.Memory)) × (input.new ≡ input.old) × (output.new ≡ output.old) }
+
+    // The headline: one legal history of the calls on each basis, whatever the schedule was, and a file that is given only if its
+    // blocks solve the recorded equations and its digest matches.
+    ensures headline { IsHeadline (command_of words.now) (I.remaining input.old) (O.contents output.old) (O.contents output.new)
+        result.end result.trace }
 
     // The calls on the bases, and their records.
     ensures kept { IsKept (command_of words.now) result.end (I.remaining input.old) result.trace }
@@ -147,18 +156,21 @@ pub fn run<R: Threads + Sync, I: Source, O: Sink, E: Sink>(
     ensures errors_faults { E.faults errors.old ≤ E.faults errors.new }
     ensures errors_wants { E.wants errors.old ≤ E.wants errors.new }
 {
-    let outcome = perform(alloc, words, input, output);
+    let outcome = perform(rt, alloc, gate, words, input, output);
     write_line(&outcome.end, errors);
     packet_wire::laws::readings();
     laws::incomplete();
     laws::true_packets();
     laws::seeded_streams();
+    laws::one_history();
     outcome
 }
 
 /// Runs the command of the words, and tells nobody how it ended.
-fn perform<I: Source, O: Sink>(
+fn perform<R: Threads + Sync, G: Gate, I: Source, O: Sink>(
+    rt: &R,
     alloc: Global,
+    gate: &G,
     words: &Words,
     input: &mut I,
     output: &mut O,
@@ -175,7 +187,7 @@ fn perform<I: Source, O: Sink>(
 {
     match read_words(words) {
         Ok(Command::Seed(said)) => Outcome::without_trace(alloc, seed(alloc, &said, input, output)),
-        Ok(Command::Fetch(said)) => fetch(alloc, &said, input, output),
+        Ok(Command::Fetch(said)) => fetch(rt, alloc, gate, &said, input, output),
         Err(error) => Outcome::without_trace(alloc, End::from(error)),
     }
 }

@@ -12,9 +12,11 @@ use generation::Shape;
 use gf16::Memory;
 use linear_spec::{List, Packet, Reply, SymVec};
 use packet_wire::Manifest;
+use receive_pass::NoGate;
 use src_check::{make_ticket, ticket_key};
 use std::alloc::Global;
 use std::test::Fail;
+use std::thread::Threads;
 
 // The digest comes from sha256sum.
 const OF_ABC: [u8; 32] = [
@@ -65,7 +67,8 @@ fn are_bytes(bytes: &[u8])
 }
 
 /// What the packets give, with this digest in the manifest.
-fn received(
+fn received<R: Threads + Sync>(
+    rt: &R,
     alloc: Global,
     digest: [u8; 32],
     small_packets: &[SmallPacket],
@@ -82,7 +85,7 @@ fn received(
     are_bytes(&digest);
     let packets = packets_of(alloc, small_packets)?;
     let manifest = Manifest { shape, digest };
-    Ok(receive(alloc, &manifest, &ticket, &packets, receivers)?)
+    Ok(receive(rt, alloc, &NoGate, &manifest, &ticket, packets, receivers)?)
 }
 
 fn offered(tag: u64, reply: Reply) -> Call {
@@ -111,6 +114,8 @@ fn small(last: bool, coefficient: u16, payload: u16) -> SmallPacket {
     }
 }
 
+// A receiver has seen only what its own calls brought: so the last packet, the first of its receiver's on its generation, fails at
+// the empty front.
 #[test]
 fn each_packet_is_received_on_its_generation(rt: HostRuntime) -> Result<(), Fail> {
     let small_packets = [
@@ -120,10 +125,10 @@ fn each_packet_is_received_on_its_generation(rt: HostRuntime) -> Result<(), Fail
         small(false, 2, 0xC2C4),
         small(false, 1, 0x6163),
     ];
-    let reception = received(rt.alloc(), OF_ABC, &small_packets, 3)?;
+    let reception = received(&rt, rt.alloc(), OF_ABC, &small_packets, 3)?;
     let calls = [
         (0, 0, offered(3, Reply::Innovative { at: 0 })),
-        (0, 1, offered(4, Reply::FailedCheck { check: 0, front: 1 })),
+        (0, 1, offered(4, Reply::FailedCheck { check: 0, front: 0 })),
         (0, 2, offered(2, Reply::NotInnovative { front: 0 })),
         (1, 0, offered(0, Reply::FailedCheck { check: 0, front: 0 })),
         (1, 1, offered(1, Reply::Innovative { at: 0 })),
@@ -143,7 +148,7 @@ fn each_packet_is_received_on_its_generation(rt: HostRuntime) -> Result<(), Fail
 #[test]
 fn the_first_generation_that_lacks_packets_is_told(rt: HostRuntime) -> Result<(), Fail> {
     let small_packets = [small(true, 1, 0x6300), small(false, 1, 0x6163)];
-    let reception = received(rt.alloc(), OF_ABC, &small_packets, 8)?;
+    let reception = received(&rt, rt.alloc(), OF_ABC, &small_packets, 8)?;
     let want = NoFile::Incomplete {
         generation: 0,
         rank: 0,
@@ -156,7 +161,7 @@ fn the_first_generation_that_lacks_packets_is_told(rt: HostRuntime) -> Result<()
 #[test]
 fn another_digest_is_told(rt: HostRuntime) -> Result<(), Fail> {
     let small_packets = [small(false, 1, 0x6162), small(true, 1, 0x6300)];
-    let reception = received(rt.alloc(), [0; 32], &small_packets, 1)?;
+    let reception = received(&rt, rt.alloc(), [0; 32], &small_packets, 1)?;
     let want = NoFile::Mismatch { found: OF_ABC };
     assert_eq!(rt; reception.file.err(), Some(want));
     Ok(())

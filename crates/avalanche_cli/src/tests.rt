@@ -6,12 +6,14 @@ use basis_core::{Answer, Call};
 use gf16::Memory;
 use linear_spec::{List, Reply};
 use packet_wire::{FaultKind, WireFault};
+use receive_pass::{Gate, NoGate};
 use std::alloc::Global;
 use std::test::Fail;
 use std::thread::Threads;
 use swarm_io::{Failed, MemSink, MemSource, Sink, SinkRefusal, Source, SteadySink, SteadySource};
 
 mod fetching;
+mod history;
 mod large;
 mod seeding;
 
@@ -52,6 +54,20 @@ struct Ran {
     errors: SteadySink,
 }
 
+/// What a run of the words of a line did.
+fn run_with<R: Threads + Sync, G: Gate, I: Source, O: Sink, E: Sink>(
+    rt: &R,
+    alloc: Global,
+    gate: &G,
+    line: &str,
+    input: &mut I,
+    output: &mut O,
+    errors: &mut E,
+) -> Result<Outcome, Memory> {
+    let words = words_in(alloc, line)?;
+    Ok(run(rt, alloc, gate, &words, input, output, errors))
+}
+
 /// A run of the words of a line over these bytes.
 fn run_line<R: Threads + Sync>(
     rt: &R,
@@ -59,11 +75,18 @@ fn run_line<R: Threads + Sync>(
     line: &str,
     input: &[u8],
 ) -> Result<Ran, Memory> {
-    let words = words_in(alloc, line)?;
     let mut input = SteadySource::new(list_of(alloc, input)?, 50);
     let mut output = SteadySink::new(alloc, 2);
     let mut errors = SteadySink::new(alloc, 1);
-    let outcome = run(rt, alloc, &words, &mut input, &mut output, &mut errors);
+    let outcome = run_with(
+        rt,
+        alloc,
+        &NoGate,
+        line,
+        &mut input,
+        &mut output,
+        &mut errors,
+    )?;
     Ok(Ran {
         outcome,
         output,
@@ -142,11 +165,18 @@ fn words_that_say_no_command_read_nothing(rt: HostRuntime) -> Result<(), Fail> {
         ),
     ];
     for (line, class, text) in cases {
-        let words = words_in(alloc, line)?;
         let mut input = Counting { reads: 0 };
         let mut output = SteadySink::new(alloc, 1);
         let mut errors = SteadySink::new(alloc, 7);
-        let outcome = run(&rt, alloc, &words, &mut input, &mut output, &mut errors);
+        let outcome = run_with(
+            &rt,
+            alloc,
+            &NoGate,
+            line,
+            &mut input,
+            &mut output,
+            &mut errors,
+        )?;
         assert_eq!(rt; outcome.end, End::Usage(class), "{line}");
         assert_eq!(rt; input.reads, 0);
         assert!(rt; output.bytes().is_empty());

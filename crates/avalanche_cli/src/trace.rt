@@ -13,7 +13,7 @@ pub struct SendEntry {
     pub drawn: Drawn,
 }
 
-/// All calls of a run: its bases, by generation, and what was sent.
+/// The calls that are kept of a run: its bases, by generation, and what was sent.
 #[derive(Debug, Drop)]
 pub struct Trace {
     pub bases: List<BasisTrace>,

@@ -4,7 +4,7 @@ ghost use Rattle.std.specs.Prelude.{None};
 use super::*;
 
 /// The stream with the manifest and the ticket of `ABC_STREAM` and these packets, each two coefficients and a payload.
-fn stream_of(alloc: Global, packets: &[[u16; 3]]) -> Result<List<u8>, Memory> {
+pub(super) fn stream_of(alloc: Global, packets: &[[u16; 3]]) -> Result<List<u8>, Memory> {
     let mut bytes = List::new(alloc);
     bytes.extend_from_slice(&ABC_STREAM[..97])?;
     for symbols in packets {
@@ -48,19 +48,36 @@ fn record_of(outcome: &Outcome, at: usize) -> Option<(u32, u32, [u16; 3])> {
 
 #[test]
 fn fetches_abc_from_two_packets(rt: HostRuntime) -> Result<(), Fail> {
-    for line in ["fetch", "fetch --receivers=2", "fetch --receivers 02"] {
+    let ran = run_line(&rt, rt.alloc(), "fetch --receivers 1", &ABC_STREAM)?;
+    assert_eq!(rt; ran.outcome.end, End::Done);
+    assert_eq!(rt; ran.output.bytes(), b"abc".as_slice());
+    assert!(rt; ran.errors.bytes().is_empty());
+    let calls = [
+        offered(0, Reply::Innovative { at: 0 }),
+        offered(1, Reply::Innovative { at: 1 }),
+    ];
+    assert_eq!(rt; calls_of(&ran.outcome, 0), calls.as_slice());
+    assert_eq!(rt; record_of(&ran.outcome, 0), Some((0, 0, [1, 0, 0x6162])));
+    assert_eq!(rt; record_of(&ran.outcome, 1), Some((0, 1, [0, 1, 0x6300])));
+    assert_eq!(rt; ran.outcome.trace.bases.len(), 1);
+    assert!(rt; ran.outcome.trace.sends.as_slice().is_empty());
+    Ok(())
+}
+
+#[test]
+fn any_number_of_receivers_gives_the_same_file(rt: HostRuntime) -> Result<(), Fail> {
+    let lines = [
+        "fetch",
+        "fetch --receivers=2",
+        "fetch --receivers 02",
+        "fetch --receivers 8",
+    ];
+    for line in lines {
         let ran = run_line(&rt, rt.alloc(), line, &ABC_STREAM)?;
         assert_eq!(rt; ran.outcome.end, End::Done);
         assert_eq!(rt; ran.output.bytes(), b"abc".as_slice());
-        assert!(rt; ran.errors.bytes().is_empty());
-        let first = [offered(0, Reply::Innovative { at: 0 })];
-        let second = [offered(1, Reply::Innovative { at: 1 })];
-        assert_eq!(rt; calls_of(&ran.outcome, 0), first.as_slice());
-        assert_eq!(rt; calls_of(&ran.outcome, 1), second.as_slice());
-        assert_eq!(rt; record_of(&ran.outcome, 0), Some((0, 0, [1, 0, 0x6162])));
-        assert_eq!(rt; record_of(&ran.outcome, 1), Some((1, 0, [0, 1, 0x6300])));
-        assert_eq!(rt; ran.outcome.trace.bases.len(), 1);
-        assert!(rt; ran.outcome.trace.sends.as_slice().is_empty());
+        assert_eq!(rt; calls_of(&ran.outcome, 0).len(), 1);
+        assert_eq!(rt; calls_of(&ran.outcome, 1).len(), 1);
     }
     Ok(())
 }
@@ -106,14 +123,16 @@ fn a_first_packet_of_no_coefficients_tells_nothing_new(rt: HostRuntime) -> Resul
     for (payload, reply) in cases {
         let packets = [[0, 0, payload], [1, 0, 0x6162], [0, 1, 0x6300]];
         let stream = stream_of(rt.alloc(), &packets)?;
-        let ran = run_line(&rt, rt.alloc(), "fetch", stream.as_slice())?;
+        let ran = run_line(&rt, rt.alloc(), "fetch --receivers 1", stream.as_slice())?;
         assert_eq!(rt; ran.outcome.end, End::Done);
         assert_eq!(rt; ran.output.bytes(), b"abc".as_slice());
-        let first = [offered(0, reply), offered(2, Reply::Innovative { at: 1 })];
-        let second = [offered(1, Reply::Innovative { at: 0 })];
-        assert_eq!(rt; calls_of(&ran.outcome, 0), first.as_slice());
-        assert_eq!(rt; calls_of(&ran.outcome, 1), second.as_slice());
-        assert_eq!(rt; record_of(&ran.outcome, 1), Some((0, 1, [0, 1, 0x6300])));
+        let calls = [
+            offered(0, reply),
+            offered(1, Reply::Innovative { at: 0 }),
+            offered(2, Reply::Innovative { at: 1 }),
+        ];
+        assert_eq!(rt; calls_of(&ran.outcome, 0), calls.as_slice());
+        assert_eq!(rt; record_of(&ran.outcome, 1), Some((0, 2, [0, 1, 0x6300])));
     }
     Ok(())
 }
@@ -121,19 +140,23 @@ fn a_first_packet_of_no_coefficients_tells_nothing_new(rt: HostRuntime) -> Resul
 #[test]
 fn packets_of_rank_one_are_incomplete(rt: HostRuntime) -> Result<(), Fail> {
     let stream = stream_of(rt.alloc(), &[[1, 0, 0x6162], [2, 0, 0xC2C4]])?;
-    let ran = run_line(&rt, rt.alloc(), "fetch", stream.as_slice())?;
     let end = End::Incomplete {
         generation: 0,
         rank: 1,
     };
-    assert_eq!(rt; ran.outcome.end, end);
-    assert!(rt; ran.output.bytes().is_empty());
-    let line = b"avalanche: incomplete: generation 0 rank 1\n";
-    assert_eq!(rt; ran.errors.bytes(), line.as_slice());
-    let first = [offered(0, Reply::Innovative { at: 0 })];
-    let second = [offered(1, Reply::NotInnovative { front: 1 })];
-    assert_eq!(rt; calls_of(&ran.outcome, 0), first.as_slice());
-    assert_eq!(rt; calls_of(&ran.outcome, 1), second.as_slice());
+    for line in ["fetch", "fetch --receivers 1"] {
+        let ran = run_line(&rt, rt.alloc(), line, stream.as_slice())?;
+        assert_eq!(rt; ran.outcome.end, end);
+        assert!(rt; ran.output.bytes().is_empty());
+        let text = b"avalanche: incomplete: generation 0 rank 1\n";
+        assert_eq!(rt; ran.errors.bytes(), text.as_slice());
+    }
+    let ran = run_line(&rt, rt.alloc(), "fetch --receivers 1", stream.as_slice())?;
+    let calls = [
+        offered(0, Reply::Innovative { at: 0 }),
+        offered(1, Reply::NotInnovative { front: 1 }),
+    ];
+    assert_eq!(rt; calls_of(&ran.outcome, 0), calls.as_slice());
     Ok(())
 }
 
@@ -160,13 +183,13 @@ const ACC_DIGEST: [u8; 32] = [
 #[test]
 fn another_payload_is_a_mismatch(rt: HostRuntime) -> Result<(), Fail> {
     let stream = stream_of(rt.alloc(), &[[1, 0, 0x6163], [0, 1, 0x6300]])?;
-    let ran = run_line(&rt, rt.alloc(), "fetch", stream.as_slice())?;
+    let ran = run_line(&rt, rt.alloc(), "fetch --receivers 1", stream.as_slice())?;
     assert_eq!(rt; ran.outcome.end, End::Mismatch { found: ACC_DIGEST });
     assert!(rt; ran.output.bytes().is_empty());
     let line =
         b"avalanche: mismatch: found 414322309db5c06d090a2e922ccc3e00708c993b9b96405de127b7fd8da2dd21\n";
     assert_eq!(rt; ran.errors.bytes(), line.as_slice());
-    assert_eq!(rt; record_of(&ran.outcome, 1), Some((1, 0, [0, 1, 0x6300])));
+    assert_eq!(rt; record_of(&ran.outcome, 1), Some((0, 1, [0, 1, 0x6300])));
     Ok(())
 }
 
@@ -226,13 +249,20 @@ fn an_empty_file_has_no_generation(rt: HostRuntime) -> Result<(), Fail> {
 #[test]
 fn a_failing_read_is_a_read_fault(rt: HostRuntime) -> Result<(), Fail> {
     let alloc = rt.alloc();
-    let words = words_in(alloc, "fetch")?;
     let mut fails = List::new(alloc);
     fails.push(2)?;
     let mut input = MemSource::new(list_of(alloc, &ABC_STREAM)?, 50, fails);
     let mut output = SteadySink::new(alloc, 1);
     let mut errors = SteadySink::new(alloc, 100);
-    let outcome = run(&rt, alloc, &words, &mut input, &mut output, &mut errors);
+    let outcome = run_with(
+        &rt,
+        alloc,
+        &NoGate,
+        "fetch",
+        &mut input,
+        &mut output,
+        &mut errors,
+    )?;
     assert_eq!(rt; outcome.end, End::ReadFault);
     assert!(rt; output.bytes().is_empty());
     assert_eq!(rt; errors.bytes(), b"avalanche: read fault\n".as_slice());
@@ -242,13 +272,20 @@ fn a_failing_read_is_a_read_fault(rt: HostRuntime) -> Result<(), Fail> {
 #[test]
 fn a_fault_comes_before_a_failing_read(rt: HostRuntime) -> Result<(), Fail> {
     let alloc = rt.alloc();
-    let words = words_in(alloc, "fetch")?;
     let mut fails = List::new(alloc);
     fails.push(1)?;
     let mut input = MemSource::new(list_of(alloc, b"AVLX")?, 50, fails);
     let mut output = SteadySink::new(alloc, 1);
     let mut errors = SteadySink::new(alloc, 100);
-    let outcome = run(&rt, alloc, &words, &mut input, &mut output, &mut errors);
+    let outcome = run_with(
+        &rt,
+        alloc,
+        &NoGate,
+        "fetch",
+        &mut input,
+        &mut output,
+        &mut errors,
+    )?;
     let fault = WireFault {
         offset: 3,
         kind: FaultKind::BadMagic,
@@ -260,13 +297,20 @@ fn a_fault_comes_before_a_failing_read(rt: HostRuntime) -> Result<(), Fail> {
 #[test]
 fn a_failing_write_is_a_write_fault(rt: HostRuntime) -> Result<(), Fail> {
     let alloc = rt.alloc();
-    let words = words_in(alloc, "fetch")?;
     let mut fails = List::new(alloc);
     fails.push(1)?;
     let mut input = SteadySource::new(list_of(alloc, &ABC_STREAM)?, 143);
     let mut output = MemSink::new(alloc, 1, fails);
     let mut errors = SteadySink::new(alloc, 100);
-    let outcome = run(&rt, alloc, &words, &mut input, &mut output, &mut errors);
+    let outcome = run_with(
+        &rt,
+        alloc,
+        &NoGate,
+        "fetch",
+        &mut input,
+        &mut output,
+        &mut errors,
+    )?;
     assert_eq!(rt; outcome.end, End::WriteFault);
     assert_eq!(rt; output.bytes(), b"a".as_slice());
     assert_eq!(rt; errors.bytes(), b"avalanche: write fault\n".as_slice());
@@ -277,13 +321,20 @@ fn a_failing_write_is_a_write_fault(rt: HostRuntime) -> Result<(), Fail> {
 #[test]
 fn a_refusing_error_output_changes_nothing(rt: HostRuntime) -> Result<(), Fail> {
     let alloc = rt.alloc();
-    let words = words_in(alloc, "fetch")?;
     let mut fails = List::new(alloc);
     fails.push(0)?;
     let mut input = SteadySource::new(list_of(alloc, &ABC_STREAM[..9])?, 143);
     let mut output = SteadySink::new(alloc, 1);
     let mut errors = MemSink::new(alloc, 100, fails);
-    let outcome = run(&rt, alloc, &words, &mut input, &mut output, &mut errors);
+    let outcome = run_with(
+        &rt,
+        alloc,
+        &NoGate,
+        "fetch",
+        &mut input,
+        &mut output,
+        &mut errors,
+    )?;
     let fault = WireFault {
         offset: 9,
         kind: FaultKind::Truncated,
@@ -321,11 +372,18 @@ impl Sink for Wanting {
 fn a_trace_is_kept_where_the_output_took_a_byte(rt: HostRuntime) -> Result<(), Fail> {
     let alloc = rt.alloc();
     for (room, bases) in [(0, 0), (1, 1)] {
-        let words = words_in(alloc, "fetch")?;
         let mut input = SteadySource::new(list_of(alloc, &ABC_STREAM)?, 143);
         let mut output = Wanting { room, wants: 0 };
         let mut errors = SteadySink::new(alloc, 100);
-        let outcome = run(&rt, alloc, &words, &mut input, &mut output, &mut errors);
+        let outcome = run_with(
+            &rt,
+            alloc,
+            &NoGate,
+            "fetch",
+            &mut input,
+            &mut output,
+            &mut errors,
+        )?;
         assert_eq!(rt; outcome.end, End::Memory);
         assert_eq!(rt; output.wants, 1);
         assert_eq!(rt; outcome.trace.bases.len(), bases);

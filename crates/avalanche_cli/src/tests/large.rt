@@ -2,6 +2,7 @@
 ghost use Rattle.std.specs.Prelude.{None};
 
 use super::*;
+use table_rows::words_of_basis;
 
 /// The end of a run of the words of a line over a source that tells no bytes, and its line.
 fn end_over<R: Threads + Sync, I: Source + Drop>(
@@ -10,10 +11,17 @@ fn end_over<R: Threads + Sync, I: Source + Drop>(
     line: &str,
     mut input: I,
 ) -> Result<(End, SteadySink), Memory> {
-    let words = words_in(alloc, line)?;
     let mut output = SteadySink::new(alloc, 65_536);
     let mut errors = SteadySink::new(alloc, 100);
-    let outcome = run(rt, alloc, &words, &mut input, &mut output, &mut errors);
+    let outcome = run_with(
+        rt,
+        alloc,
+        &NoGate,
+        line,
+        &mut input,
+        &mut output,
+        &mut errors,
+    )?;
     Ok((outcome.end, errors))
 }
 
@@ -139,5 +147,55 @@ fn a_fault_comes_before_the_limit(rt: HostRuntime) -> Result<(), Fail> {
         kind: FaultKind::BadMagic,
     };
     assert_eq!(rt; end, End::BadStream(fault));
+    Ok(())
+}
+
+/// Bytes of a linear congruential generator.
+fn random_bytes(alloc: Global, count: usize) -> Result<List<u8>, Memory> {
+    let mut bytes = List::new(alloc);
+    bytes.reserve(count)?;
+    let mut state: u32 = 2026;
+    for _place in 0..count {
+        state = state.wrapping_mul(1_664_525).wrapping_add(1_013_904_223);
+        bytes.push((state >> 24) as u8)?;
+    }
+    Ok(bytes)
+}
+
+/// What a run of the words of a line over these bytes wrote, in large pieces, and its end.
+fn run_large<R: Threads + Sync>(
+    rt: &R,
+    alloc: Global,
+    line: &str,
+    input: &[u8],
+) -> Result<(End, SteadySink), Memory> {
+    let mut input = SteadySource::new(list_of(alloc, input)?, 65_536);
+    let mut output = SteadySink::new(alloc, 65_536);
+    let mut errors = SteadySink::new(alloc, 100);
+    let outcome = run_with(
+        rt,
+        alloc,
+        &NoGate,
+        line,
+        &mut input,
+        &mut output,
+        &mut errors,
+    )?;
+    Ok((outcome.end, output))
+}
+
+// With the default options the file has 256 generations of 64 blocks of 512 symbols.
+#[test]
+fn a_large_file_comes_back_through_eight_receivers(rt: HostRuntime) -> Result<(), Fail> {
+    let alloc = rt.alloc();
+    assert_eq!(rt; words_of_basis(64, 512, 8).saturating_mul(256), 5_361_664);
+    let file = random_bytes(alloc, 16_777_216)?;
+    let (end, stream) = run_large(&rt, alloc, "seed", file.as_slice())?;
+    assert_eq!(rt; end, End::Done);
+    for _round in 0..2 {
+        let (end, copy) = run_large(&rt, alloc, "fetch --receivers 8", stream.bytes())?;
+        assert_eq!(rt; end, End::Done);
+        assert!(rt; copy.bytes() == file.as_slice());
+    }
     Ok(())
 }

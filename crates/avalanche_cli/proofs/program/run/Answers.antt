@@ -1,3 +1,4 @@
+use Rattle.avalanche_cli.proofs.HeadlineLemmas.{headline, keeps_itself}
 use Rattle.avalanche_cli.proofs.RunLemmas as ran
 use Rattle.avalanche_cli.proofs.CompleteLemmas as complete
 use Rattle.avalanche_cli.proofs.program.run.Goals as goal
@@ -7,6 +8,9 @@ returns-clause-usage g c = λ class at. ran.usage _ _ _ _ _ _ _ _ _ c.perform-ou
 
 pub returns-clause-no_command : goal.returns-clause-no_command
 returns-clause-no_command g c = λ class says. ran.no_command _ _ _ _ _ _ _ _ _ c.perform-outcome.result _ class c.perform-outcome.ensures.run says
+
+pub returns-clause-headline : goal.returns-clause-headline
+returns-clause-headline g c = headline c.one_history.ensures _ _ _ _ _ _ _ _ _ c.perform-outcome.result _ (λ same. rw same (keeps_itself _)) c.perform-outcome.ensures.run
 
 pub returns-clause-kept : goal.returns-clause-kept
 returns-clause-kept g c = ran.kept _ _ _ _ _ _ _ _ _ c.perform-outcome.result _ c.perform-outcome.ensures.run

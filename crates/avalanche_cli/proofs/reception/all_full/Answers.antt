@@ -1,8 +1,8 @@
-use Rattle.std.proofs.Common.{◌≡◌, ◌<◌, ◌∙◌, List, length, get_or, take, ap, subst, arith}
+use Rattle.std.proofs.Common.{◌≡◌, ◌<◌, ◌≤◌, ◌∙◌, List, length, get_or, take, ap, subst, sym, arith}
 use Rattle.std.specs.List.{All}
 use Rattle.std.proofs.lemmas.List.{take_all}
 use Rattle.std.proofs.lemmas.List.Elements.{All-more}
-use Rattle.plain_basis.specs.Basis.{Basis}
+use Rattle.shared_basis.specs.declared.params.Closed.{Closed}
 use Rattle.avalanche_cli.specs.Reception.{IsFull}
 use Rattle.avalanche_cli.proofs.reception.all_full.Goals as goal
 
@@ -12,9 +12,9 @@ loop-generation-preserved c =
     let generation = c.loop-generation.generation in
     let basis = c.basis-item.result in
     let same = c.as_slice-basis-items.ensures in
-    let below : generation < length c.args.bases.now.items = subst (λ (l : List Basis). generation < length l) same c.loop-generation-test.true in
-    let shape : basis.k ≡ c.args.k = ap (λ (b : Basis). b.k) (c.basis-item.is ∙ ap (λ (l : List Basis). get_or l generation basis) same) ∙ c.requires.k generation basis below in
-    let most = c.rank_of-rank.ensures.most in
+    let below : generation < length c.args.bases.now.items = subst (λ (l : List Closed). generation < length l) same c.loop-generation-test.true in
+    let is : basis ≡ get_or c.args.bases.now.items generation basis = c.basis-item.is ∙ ap (λ (l : List Closed). get_or l generation basis) same in
+    let most : length basis.records.items ≤ c.args.k = subst (λ (b : Closed). length b.records.items ≤ c.args.k) (sym is) (c.requires.at_most generation basis below) in
     let full : IsFull c.args.k basis = omega arith in
     All-more (IsFull c.args.k) items generation basis c.loop-generation-test.true c.loop-generation.invariant (subst (IsFull c.args.k) c.basis-item.is full)
 

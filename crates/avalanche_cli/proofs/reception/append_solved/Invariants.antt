@@ -5,4 +5,4 @@ use Rattle.avalanche_cli.proofs.reception.append_solved.Given as goal
 
 -- the bytes of the blocks so far were appended
 abbrev pub invariant-loop-block : goal.invariant-loop-block
-invariant-loop-block l = l.bytes.items ≡ l.fn.bytes.items ++ flat_map be_bytes_of (take l.block-index l.block-items)
+invariant-loop-block g l = l.bytes.items ≡ l.fn.bytes.items ++ flat_map be_bytes_of (take l.block-index l.block-items)

@@ -5,6 +5,6 @@ use Rattle.avalanche_cli.proofs.reception.joined.Given as goal
 
 -- the bytes of the bases so far
 abbrev pub invariant-loop-basis : goal.invariant-loop-basis
-invariant-loop-basis l = record {
+invariant-loop-basis g l = record {
   solved : AreSolvedBytes l.shape.k (symbols_per_block l.shape) (packets_in (take l.basis-index l.basis-items)) l.file.items;
 }
