@@ -1,4 +1,5 @@
 pub mod DecodingLemmas
+pub mod ExchangeLemmas
 pub mod SharedLemmas
 pub mod Sums
 pub mod TurnLemmas

@@ -11,6 +11,7 @@ use Rattle.shared_basis.specs.Passes.{AreNewPasses, IsPassOf}
 use Rattle.receive_pass.specs.declared.worker.TaggedPacket.{TaggedPacket}
 use Rattle.receive_pass.specs.declared.worker.Worker.{Worker}
 use Rattle.receive_pass.specs.Workers.{AreBases, HasReceived, HavePasses, IsReady, IsReceivable}
+use Rattle.benchmarks.specs.Exchanges.{HasOnePass}
 use Rattle.benchmarks.specs.Offers.{HasFirstPass, IsOffered, IsOnlyBasis, IsRoomyPassOf}
 
 -- what holds of all and of one more
@@ -88,6 +89,10 @@ ready_with equations bases most pass inbox worker only of few offered own has = 
       });
 }
 
+-- some basis, where one has to be named
+no_basis : PassValue → BasisValue
+no_basis pass = record { table = pass.table; parameters = pass.parameters; peer = 0 }
+
 -- once inboxes were received the first worker still has its pass
 pub first_received : (equations : Equations) (bases : List BasisValue) (before after : List Worker) → IsOnlyBasis equations bases
     → 0 < length before → All (IsReady equations bases) before → length after ≡ length before
@@ -108,6 +113,24 @@ first_received equations bases before after only some ready same each =
             table = sees.table ∙ is_of.table;
             parameters = sees.parameters ∙ is_of.parameters;
           };
+    }
+
+-- and each worker has one pass, of a basis with the same equations
+pub each_has_one : (equations : Equations) (bases : List BasisValue) (before after : List Worker) → IsOnlyBasis equations bases
+    → All (IsReady equations bases) before → length after ≡ length before
+    → ((at : ℕ) (other : Worker) → at < length before → HasReceived (get_or before at other) (get_or after at other))
+    → All (HasOnePass equations) after
+each_has_one equations bases before after only ready same each at other below =
+    let within : at < length before = subst (λ (n : ℕ). at < n) same below in
+    let had = (ready at other within).passes_are in
+    let received = (each at other within).passes in
+    let some : 0 < length bases = subst (λ (n : ℕ). 0 < n) (sym only.count) (omega arith) in
+    record {
+      count = received.count ∙ had.count ∙ only.count;
+      equations_are = λ own.
+          let sees = (received.each 0 own (subst (λ (n : ℕ). 0 < n) (sym had.count) some)).sees in
+          let kept = sees.parameters ∙ (had.each 0 own (no_basis own) some).parameters in
+          ap (λ p. p.equations.value) kept ∙ only.equations_are (no_basis own);
     }
 
 -- the passes of a new basis that is alone have room

@@ -9,12 +9,14 @@
 //! - `offers plain K S COUNT TIMES` makes that many packets and offers them all to a plain basis, that often, each time to a
 //!   new one, and prints the number of records of all of them.
 //! - `offers shared K S COUNT PASSES TIMES` does so with a shared basis: the packets are dealt to that many passes in turn, each
-//!   pass in a thread of its own.
+//!   pass in a thread of its own. A second line tells how many exchanges the passes tried, and how many of these were lost to
+//!   another caller's record.
 //! - `table K S PASSES TIMES` makes that many tables of such a basis, and prints the number of their words.
 //! - `zeros BYTES TIMES` writes zeros over that many bytes, that often, and prints their sum.
 #![tactic(auto)]
 
 mod decoding;
+mod exchanges;
 mod job;
 mod kernel;
 mod offers;
@@ -31,6 +33,7 @@ use gf16::Memory;
 use job::Job;
 use linear_spec::Words;
 use packet_wire::FeedError;
+use shared::Outcome;
 use std::alloc::Global;
 use std::env;
 use std::rt::Env;
@@ -60,8 +63,9 @@ fn main(rt: HostRuntime) -> Result<()> {
             println!(rt; "{records}")?;
         }
         Job::OffersShared(shared) => {
-            let records = shared.records(&rt, rt.alloc())?;
+            let Outcome { records, exchanges } = shared.outcome(&rt, rt.alloc())?;
             println!(rt; "{records}")?;
+            println!(rt; "tried {} lost {}", exchanges.tried, exchanges.lost)?;
         }
         Job::Table(tables) => {
             let words = tables.words_made(rt.alloc())?;

@@ -6,6 +6,7 @@ ghost use Rattle.receive_pass.specs.Workers.{IsReady};
 ghost use Rattle.shared_basis.specs.Bases.{BasisValue};
 ghost use Rattle.benchmarks.specs.Offers.{HasFirstPass, IsOffered, IsOnlyBasis, IsRoomyPassOf};
 
+use crate::exchanges::{Exchanges, exchanges_of};
 use crate::offers::Offers;
 use crate::tables::no_checks;
 use gf16::Memory;
@@ -34,36 +35,54 @@ impl SharedOffers {
         Some(SharedOffers { offers, passes })
     }
 
-    /// The number of records of all turns, each of which has a shared basis of its own.
-    pub fn records<R: Threads + Sync>(&self, rt: &R, alloc: Global) -> Result<u64, Memory>
-        ensures { IfOk result (λ records. records ≤ self.now.offers.turns * self.now.offers.k) }
+    /// The outcome of all turns together, each of which has a shared basis of its own.
+    pub fn outcome<R: Threads + Sync>(&self, rt: &R, alloc: Global) -> Result<Outcome, Memory>
+        ensures records { IfOk result (λ outcome. outcome.records ≤ self.now.offers.turns * self.now.offers.k) }
+        ensures tried { IfOk result (λ outcome. outcome.exchanges.tried ≤ self.now.offers.turns * (self.now.passes * self.now.offers.k)) }
+        ensures lost { IfOk result (λ outcome. outcome.exchanges.lost ≤ outcome.exchanges.tried) }
     {
         let equations = no_checks(alloc, self.offers.k, self.offers.s)?;
         let packets = self.offers.packets(alloc)?;
         let mut records = 0;
+        let mut tried = 0;
+        let mut lost = 0;
         for _turn in 0..self.offers.turns {
-            let of_turn = shared_records(rt, alloc, &equations, self.passes, packets.as_slice())?;
-            records += u64::from(of_turn);
+            let of_turn = shared_outcome(rt, alloc, &equations, self.passes, packets.as_slice())?;
+            records += of_turn.records;
+            tried += of_turn.exchanges.tried;
+            lost += of_turn.exchanges.lost;
         }
-        Ok(records)
+        Ok(Outcome {
+            records,
+            exchanges: Exchanges { tried, lost },
+        })
     }
 }
 
-/// The number of records of a new shared basis whose passes receive copies of these packets.
-#[tactic(auto, using(crate::proofs::SharedLemmas::new_roomy, crate::proofs::SharedLemmas::first_received))]
-fn shared_records<R: Threads + Sync>(
+/// What offers to a shared basis come to.
+#[derive(Clone, Copy, Debug, PartialEq, Eq)]
+pub struct Outcome {
+    pub records: u64,
+    pub exchanges: Exchanges,
+}
+
+/// The outcome of a new shared basis whose passes receive copies of these packets.
+#[tactic(auto, using(crate::proofs::SharedLemmas::new_roomy, crate::proofs::SharedLemmas::first_received, crate::proofs::SharedLemmas::each_has_one))]
+fn shared_outcome<R: Threads + Sync>(
     rt: &R,
     alloc: Global,
     equations: &Equations,
     passes: u32,
     packets: &[Packet],
-) -> Result<u16, Memory>
+) -> Result<Outcome, Memory>
     requires equations { AreEquations equations.now × (equations.now.generations ≡ 1) }
     requires blocks { (1 ≤ equations.now.k) × (equations.now.k ≤ 64) }
     requires passes { (1 ≤ passes) × (passes ≤ 16) }
     requires packets { All (IsOffered equations.now.k equations.now.s) packets.now }
     requires few { length packets.now < 2 ^ 16 }
-    ensures { IfOk result (λ records. records ≤ equations.now.k) }
+    ensures records { IfOk result (λ outcome. outcome.records ≤ equations.now.k) }
+    ensures tried { IfOk result (λ outcome. outcome.exchanges.tried ≤ passes * equations.now.k) }
+    ensures lost { IfOk result (λ outcome. outcome.exchanges.lost ≤ outcome.exchanges.tried) }
 {
     let params = Params {
         peer: 0,
@@ -80,7 +99,13 @@ fn shared_records<R: Threads + Sync>(
     bases.push(basis)?;
     let mut workers = workers_of(alloc, &bases, equations, list, packets)?;
     receive_all(rt, &NoGate, &bases, equations, &mut workers);
-    Ok(seen_by_first(&bases, &mut workers))
+    // Counted before the look, by which a pass sees records without an exchange.
+    let exchanges = exchanges_of(equations, &workers);
+    let records = seen_by_first(&bases, &mut workers);
+    Ok(Outcome {
+        records: u64::from(records),
+        exchanges,
+    })
 }
 
 /// How many records of the first basis the first worker's pass sees at last.

@@ -1,6 +1,7 @@
 ghost use Rattle.std.specs.Prelude.{◌≤◌, length};
 
 use crate::decoding::Decoding;
+use crate::exchanges::Exchanges;
 use crate::job::Job;
 use crate::offers::Offers;
 use crate::shared::SharedOffers;
@@ -11,6 +12,7 @@ use gf16::Memory;
 use linear_spec::Words;
 use std::alloc::Global;
 use std::test::Fail;
+use std::thread::Threads;
 
 // The sums come from a Python script that multiplies polynomials without carries and divides by 0x1100B.
 
@@ -81,9 +83,28 @@ fn plain_and_shared_bases_record_as_many(rt: HostRuntime) -> Result<(), Fail> {
         let plain = offers.records_of_plain(rt.alloc())?;
         assert_eq!(rt; plain, records, "{k} {s} {count} {turns}");
         let shared = SharedOffers::named(k, s, count, passes, turns).ok_or(k)?;
-        let of_shared = shared.records(&rt, rt.alloc())?;
+        let of_shared = records_of_shared(&rt, rt.alloc(), &shared)?;
         assert_eq!(rt; of_shared, records, "{k} {s} {count} {passes} {turns}");
     }
+    Ok(())
+}
+
+fn records_of_shared<R: Threads + Sync>(
+    rt: &R,
+    alloc: Global,
+    shared: &SharedOffers,
+) -> Result<u64, Memory> {
+    Ok(shared.outcome(rt, alloc)?.records)
+}
+
+#[test]
+fn exchanges_are_lost_to_other_passes_alone(rt: HostRuntime) -> Result<(), Fail> {
+    let alone = SharedOffers::named("8", "3", "20", "1", "2").ok_or("one pass")?;
+    let own = Exchanges { tried: 16, lost: 0 };
+    assert_eq!(rt; alone.outcome(&rt, rt.alloc())?.exchanges, own);
+    let rivals = SharedOffers::named("8", "3", "20", "4", "2").ok_or("four passes")?;
+    let theirs = rivals.outcome(&rt, rt.alloc())?.exchanges;
+    assert_eq!(rt; theirs.tried - theirs.lost, 16);
     Ok(())
 }
 

@@ -2,11 +2,11 @@ use Rattle.std.proofs.Common.{ℕ, List, sym, subst}
 use Rattle.std.specs.List.{All}
 use Rattle.linear_spec.specs.declared.packet.Packet.{Packet}
 use Rattle.benchmarks.specs.Offers.{IsOffered}
-use Rattle.benchmarks.proofs.shared.SharedOffers.records.Goals as goal
+use Rattle.benchmarks.proofs.shared.SharedOffers.outcome.Goals as goal
 
 -- the packets have the lengths that the equations tell
-pub shared_records-requires-clause-packets : goal.shared_records-requires-clause-packets
-shared_records-requires-clause-packets g c κs within =
+pub shared_outcome-requires-clause-packets : goal.shared_outcome-requires-clause-packets
+shared_outcome-requires-clause-packets g c κs within =
     let equations = c.in_ok-equations.equations in
     let shape = c.in_ok-equations.ensures.shape in
     let packets = c.in_ok-packets.packets.items in
