@@ -1,4 +1,4 @@
--- Workers that change one after another.
+-- Workers and passes that change one after another.
 use Rattle.std.proofs.Common.{◌≡◌, ◌≢◌, ℕ, ◌+◌, ◌<◌, ◌≤◌, List, [], ◌∷◌, ◌++◌, length, get_or, set, sym, refl, ap, ◌∙◌, subst, arith, inl, inr}
 use Rattle.std.proofs.lemmas.List.{get_or_append_left, get_or_default, get_or_push, get_or-set_other, get_or-set_same, length-set}
 use Rattle.std.proofs.lemmas.Bool.{cases_eq}
@@ -7,25 +7,25 @@ use Rattle.receive_pass.specs.declared.worker.Worker.{Worker}
 use Rattle.shared_reception.specs.Steps.{HasGained, HaveGained}
 
 -- those below this number have changed as they should, and the others are as before
-pub record AreChangedBelow (R : ℕ → Worker → Worker → Type 0) (count : ℕ) (before after : List Worker) : Type 0 where
+pub record AreChangedBelow {X : Type 0} (R : ℕ → X → X → Type 0) (count : ℕ) (before after : List X) : Type 0 where
   pub length_is : length after ≡ length before
-  pub changed : (number : ℕ) (other : Worker) → number < count → R number (get_or before number other) (get_or after number other)
-  pub left : (number : ℕ) (other : Worker) → count ≤ number → get_or after number other ≡ get_or before number other
+  pub changed : (number : ℕ) (other : X) → number < count → R number (get_or before number other) (get_or after number other)
+  pub left : (number : ℕ) (other : X) → count ≤ number → get_or after number other ≡ get_or before number other
 
-pub changed_none : (R : ℕ → Worker → Worker → Type 0) (before : List Worker) → AreChangedBelow R 0 before before
+pub changed_none : {X : Type 0} (R : ℕ → X → X → Type 0) (before : List X) → AreChangedBelow R 0 before before
 changed_none R before = record { length_is = refl; changed = λ number other low. absurd (omega arith); left = λ number other high. refl }
 
 -- the next one changes
-pub changed_more : (R : ℕ → Worker → Worker → Type 0) (count : ℕ) (before now : List Worker) (new : Worker) → AreChangedBelow R count before now
-    → count < length before → ((other : Worker) → R count (get_or before count other) new) → AreChangedBelow R (count + 1) before (set now count new)
-changed_more R count before now new below low next =
+pub changed_more : {X : Type 0} (R : ℕ → X → X → Type 0) (count : ℕ) (before now : List X) (new : X) → AreChangedBelow R count before now
+    → count < length before → ((other : X) → R count (get_or before count other) new) → AreChangedBelow R (count + 1) before (set now count new)
+changed_more {X} R count before now new below low next =
     let there : count < length now = subst (λ (n : ℕ). count < n) (sym below.length_is) low in record {
       length_is = length-set now count new ∙ below.length_is;
       changed = λ number other in_range.
           elim (cases_eq number count) as (λ _. R number (get_or before number other) (get_or (set now count new) number other)) [
             | inl here ↦ subst (λ (n : ℕ). R n (get_or before n other) (get_or (set now count new) n other)) (sym here)
-                (subst (λ (w : Worker). R count (get_or before count other) w) (sym (get_or-set_same now count new other there)) (next other))
-            | inr else ↦ subst (λ (w : Worker). R number (get_or before number other) w) (sym (get_or-set_other now count number new other else))
+                (subst (λ (w : X). R count (get_or before count other) w) (sym (get_or-set_same now count new other there)) (next other))
+            | inr else ↦ subst (λ (w : X). R number (get_or before number other) w) (sym (get_or-set_other now count number new other else))
                 (below.changed number other (omega arith))
           ];
       left = λ number other high.
@@ -34,8 +34,8 @@ changed_more R count before now new below low next =
     }
 
 -- what held of each that has changed holds in other words
-pub changed_as : (R Q : ℕ → Worker → Worker → Type 0) (count : ℕ) (before now : List Worker)
-    → ((number : ℕ) (x y : Worker) → number < count → R number x y → Q number x y) → AreChangedBelow R count before now → AreChangedBelow Q count before now
+pub changed_as : {X : Type 0} (R Q : ℕ → X → X → Type 0) (count : ℕ) (before now : List X)
+    → ((number : ℕ) (x y : X) → number < count → R number x y → Q number x y) → AreChangedBelow R count before now → AreChangedBelow Q count before now
 changed_as R Q count before now says below = record {
   length_is = below.length_is;
   changed = λ number other low. says number (get_or before number other) (get_or now number other) low (below.changed number other low);

@@ -2,7 +2,7 @@
 use Rattle.std.proofs.Common.{◌≡◌, ℕ, ◌+◌, ◌%◌, ◌<◌, ◌≤◌, List, [], ◌∷◌, ◌++◌, length, take, get_or, set, sym, refl, ap, suc, ◌∙◌, subst, arith, inl, inr, eq-eqb, ne_eqb}
 use Rattle.std.specs.Prelude.{◌==◌, Bool, cond}
 use Rattle.std.specs.List.{filter}
-use Rattle.std.proofs.lemmas.List.{append-nil, get_or-set_other, get_or-set_same, length-set, length-take-le, length_push, take_more}
+use Rattle.std.proofs.lemmas.List.{append-nil, get_or-set_other, get_or-set_same, length-set, length-take-le, take_more}
 use Rattle.std.proofs.lemmas.List.Elements.{filter-append}
 use Rattle.std.proofs.lemmas.List.Sums.{count_by-le-length, length-filter}
 use Rattle.std.proofs.lemmas.Bool.{cases_eq}
@@ -11,7 +11,6 @@ use Rattle.receive_pass.specs.declared.worker.TaggedPacket.{TaggedPacket}
 use Rattle.receive_pass.specs.declared.worker.Worker.{Worker}
 use Rattle.shared_reception.specs.Dealing.{inbox_of, tagged_from}
 use Rattle.shared_reception.specs.Steps.{AreDealt}
-use Rattle.shared_reception.proofs.Lists.{each_push}
 
 pub tagged_append : (packets others : List Packet) (tag : ℕ) → tagged_from (packets ++ others) tag ≡ tagged_from packets tag ++ tagged_from others (tag + length packets)
 tagged_append [] others tag = ap (λ (n : ℕ). tagged_from others n) (omega arith)
@@ -49,14 +48,14 @@ inbox_more receivers number tag packets packet low is =
     ∙ ap (λ (n : ℕ). inbox_of receivers number (take tag packets) ++ filter test (tagged_from (packet ∷ []) n)) start
 
 -- the next packet is dealt
-dealt_at : (receivers tag : ℕ) (packets : List Packet) (packet : Packet) (workers : List Worker) (new was : Worker) → 1 ≤ receivers
-    → AreDealt receivers (take tag packets) workers → tag < length packets → packet ≡ get_or packets tag packet
+dealt_at : (receivers callers tag : ℕ) (packets : List Packet) (packet : Packet) (workers : List Worker) (new was : Worker) → 1 ≤ receivers → receivers ≤ callers
+    → AreDealt receivers callers (take tag packets) workers → tag < length packets → packet ≡ get_or packets tag packet
     → new.inbox.items ≡ (get_or workers (tag % receivers) was).inbox.items ++ record { tag = tag; packet = packet } ∷ []
     → new.passes ≡ (get_or workers (tag % receivers) was).passes
-    → AreDealt receivers (take (tag + 1) packets) (set workers (tag % receivers) new)
-dealt_at receivers tag packets packet workers new was some dealt low is gained same =
+    → AreDealt receivers callers (take (tag + 1) packets) (set workers (tag % receivers) new)
+dealt_at receivers callers tag packets packet workers new was some many dealt low is gained same =
     let at : ℕ = tag % receivers in
-    let within : at < receivers = omega arith in
+    let within : at < callers = omega arith in
     let there : at < length workers = subst (λ (n : ℕ). at < n) (sym dealt.count) within in record {
       count = length-set workers at new ∙ dealt.count;
       inboxes = λ number other in_range.
@@ -86,25 +85,11 @@ dealt_at receivers tag packets packet workers new was some dealt low is gained s
           ];
     }
 
-pub dealt_more : (tag : ℕ) (packets : List Packet) (packet : Packet) (workers : List Worker) (new was : Worker) → 1 ≤ length workers
-    → AreDealt (length workers) (take tag packets) workers → tag < length packets → packet ≡ get_or packets tag packet
-    → new.inbox.items ≡ (get_or workers (tag % length workers) was).inbox.items ++ record { tag = tag; packet = packet } ∷ []
-    → new.passes ≡ (get_or workers (tag % length workers) was).passes
-    → AreDealt (length (set workers (tag % length workers) new)) (take (tag + 1) packets) (set workers (tag % length workers) new)
-dealt_more tag packets packet workers new was some dealt low is gained same =
-    subst (λ (n : ℕ). AreDealt n (take (tag + 1) packets) (set workers (tag % length workers) new)) (sym (length-set workers (tag % length workers) new))
-    (dealt_at (length workers) tag packets packet workers new was some dealt low is gained same)
-
--- one worker more, with nothing to receive
-pub idle_push : (count : ℕ) (workers : List Worker) (worker : Worker) → AreDealt count [] workers → worker.inbox.items ≡ [] → worker.passes.items ≡ []
-    → AreDealt (count + 1) [] (workers ++ worker ∷ [])
-idle_push count workers worker idle no_packets no_passes =
-    let longer : length (workers ++ worker ∷ []) ≡ count + 1 = length_push workers worker ∙ ap (λ (n : ℕ). n + 1) idle.count in record {
-      count = longer;
-      inboxes = λ number other low.
-          each_push (λ (_ : ℕ) (w : Worker). w.inbox.items ≡ []) workers worker
-          (λ i d in_range. idle.inboxes i d (subst (λ (n : ℕ). i < n) idle.count in_range)) no_packets number other (subst (λ (n : ℕ). number < n) (sym longer) low);
-      passes = λ number other low.
-          each_push (λ (_ : ℕ) (w : Worker). w.passes.items ≡ []) workers worker
-          (λ i d in_range. idle.passes i d (subst (λ (n : ℕ). i < n) idle.count in_range)) no_passes number other (subst (λ (n : ℕ). number < n) (sym longer) low);
-    }
+pub dealt_more : (receivers tag : ℕ) (packets : List Packet) (packet : Packet) (workers : List Worker) (new was : Worker) → 1 ≤ receivers → receivers ≤ length workers
+    → AreDealt receivers (length workers) (take tag packets) workers → tag < length packets → packet ≡ get_or packets tag packet
+    → new.inbox.items ≡ (get_or workers (tag % receivers) was).inbox.items ++ record { tag = tag; packet = packet } ∷ []
+    → new.passes ≡ (get_or workers (tag % receivers) was).passes
+    → AreDealt receivers (length (set workers (tag % receivers) new)) (take (tag + 1) packets) (set workers (tag % receivers) new)
+dealt_more receivers tag packets packet workers new was some many dealt low is gained same =
+    subst (λ (n : ℕ). AreDealt receivers n (take (tag + 1) packets) (set workers (tag % receivers) new)) (sym (length-set workers (tag % receivers) new))
+    (dealt_at receivers (length workers) tag packets packet workers new was some many dealt low is gained same)

@@ -1,6 +1,11 @@
+pub mod AllSeen
 pub mod Changes
+pub mod ClosedRelays
 pub mod Closings
 pub mod Dealt
 pub mod Lists
 pub mod Made
 pub mod Receptions
+pub mod RelayClosings
+pub mod RelayReceptions
+pub mod Senders

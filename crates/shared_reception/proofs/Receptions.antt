@@ -12,12 +12,14 @@ use Rattle.linear_spec.specs.Packet.{Fits}
 use Rattle.linear_spec.specs.Passing.{IsTestable}
 use Rattle.linear_spec.specs.Rows.{StandForAll}
 use Rattle.linear_spec.specs.SequentialBasis.{packets_of}
+use Rattle.table_rows.specs.Seats.{IsMadeWith}
 use Rattle.basis_core.specs.declared.trace.CallerTrace.{CallerTrace}
 use Rattle.basis_core.specs.Calls.{KeptCall, call_of}
 use Rattle.basis_core.specs.Legal.{IsLegalHistory}
 use Rattle.basis_core.specs.Merge.{Given, given_by, only}
 use Rattle.shared_basis.specs.declared.params.Closed.{Closed}
 use Rattle.shared_basis.specs.Bases.{BasisValue, PassValue}
+use Rattle.shared_basis.specs.Close.{IsCloseOf}
 use Rattle.shared_basis.specs.Passes.{calls_of}
 use Rattle.receive_pass.specs.declared.worker.TaggedPacket.{TaggedPacket}
 use Rattle.receive_pass.specs.declared.worker.Worker.{Worker}
@@ -37,10 +39,10 @@ pub record HistoryLaws : Type 0 where
       → IsLegalHistory equations given records → IsLegalHistory equations (only number calls) records
 
 -- no inbox has too many packets
-pub few_dealt : (receivers : ℕ) (packets : List Packet) (workers : List Worker) → AreDealt receivers packets workers → length packets < 2 ^ 32
+pub few_dealt : (receivers callers : ℕ) (packets : List Packet) (workers : List Worker) → AreDealt receivers callers packets workers → length packets < 2 ^ 32
     → All (λ worker. length worker.inbox.items < 2 ^ 32) workers
-few_dealt receivers packets workers dealt few = λ number other low.
-    let there : number < receivers = subst (λ (n : ℕ). number < n) dealt.count low in
+few_dealt receivers callers packets workers dealt few = λ number other low.
+    let there : number < callers = subst (λ (n : ℕ). number < n) dealt.count low in
     let same : length (get_or workers number other).inbox.items ≡ length (inbox_of receivers number packets) = ap length (dealt.inboxes number other there) in
     let within = inbox_within receivers number packets in
     omega arith
@@ -61,12 +63,12 @@ bases_are equations passes bases made = record {
 }
 
 -- the workers that share the bases may receive what was dealt to them
-pub all_ready : (equations : Equations) (receivers room : ℕ) (packets : List Packet) (bases : List BasisValue) (before after : List Worker)
-    → AreDealt receivers packets before → All (IsTestable equations) packets → HaveBases equations room bases before after → length bases ≡ equations.generations
+pub all_ready : (equations : Equations) (receivers callers room : ℕ) (packets : List Packet) (bases : List BasisValue) (before after : List Worker)
+    → AreDealt receivers callers packets before → All (IsTestable equations) packets → HaveBases equations room bases before after → length bases ≡ equations.generations
     → All (λ worker. length worker.inbox.items ≤ room) before → All (IsReady equations bases) after
-all_ready equations receivers room packets bases before after dealt testable have all enough = λ number other low.
+all_ready equations receivers callers room packets bases before after dealt testable have all enough = λ number other low.
     let there : number < length before = subst (λ (n : ℕ). number < n) have.count low in
-    let dealt_there : number < receivers = subst (λ (n : ℕ). number < n) dealt.count there in
+    let dealt_there : number < callers = subst (λ (n : ℕ). number < n) dealt.count there in
     let worker : Worker = get_or after number other in
     let same : worker.inbox.items ≡ (get_or before number other).inbox.items = ap (λ l. l.items) (have.inboxes number other there) in
     let inbox : worker.inbox.items ≡ inbox_of receivers number packets = same ∙ dealt.inboxes number other dealt_there in
@@ -108,7 +110,7 @@ all_left equations room bases dealt before after have same received = record {
 }
 
 -- the calls of passes, by their place
-abbrev kept_by : List PassValue → ℕ → List KeptCall
+abbrev pub kept_by : List PassValue → ℕ → List KeptCall
 kept_by passes number = get_or (map (λ pass. pass.calls) passes) number []
 
 -- passes that are numbered on from a number: each is given with its calls
@@ -125,6 +127,13 @@ given_at (pass ∷ passes) first (suc number) numbered low =
     ∙ ap (given_by (map calls_of passes)) (sym along)
     ∙ given_at passes (first + 1) number (λ at other in_range. numbered (suc at) other (omega arith) ∙ omega arith) (omega arith)
 
+-- passes that are numbered by their places: each is given with its calls
+pub given_in : (passes : List PassValue) (number : ℕ) → ((at : ℕ) (other : PassValue) → at < length passes → (get_or passes at other).number ≡ at)
+    → number < length passes → given_by (map calls_of passes) number ≡ Some (kept_by passes number)
+given_in passes number numbered low =
+    let start : number ≡ 0 + number = omega arith in
+    ap (given_by (map calls_of passes)) start ∙ given_at passes 0 number (λ at other in_range. numbered at other in_range ∙ omega arith) low
+
 below_is : (count : ℕ) (kept : ℕ → List KeptCall) (number : ℕ) (calls : List KeptCall) → given_below count kept number ≡ Some calls
     → (number < count) × (calls ≡ kept number)
 below_is count kept number calls found =
@@ -140,16 +149,12 @@ legal_below : HistoryLaws → (equations : Equations) (records : List Record) (p
     → IsLegalHistory equations (given_by (map calls_of passes)) records
     → IsLegalHistory equations (given_below (length passes) (kept_by passes)) records
 legal_below laws equations records passes some numbered legal =
-    let from_zero : (at : ℕ) (other : PassValue) → at < length passes → (get_or passes at other).number ≡ 0 + at =
-    λ at other low. numbered at other low ∙ omega arith in
-    let given : (number : ℕ) → number < length passes → given_by (map calls_of passes) number ≡ Some (kept_by passes number) =
-    λ number low. let start : number ≡ 0 + number = omega arith in ap (given_by (map calls_of passes)) start ∙ given_at passes 0 number from_zero low in
     laws.together equations (given_below (length passes) (kept_by passes)) records 0 (kept_by passes 0)
     (ap (λ (b : Bool). cond b (Some (kept_by passes 0)) None) (lt-ltb 0 (length passes) (omega arith)))
     (λ other its found.
     let is = below_is (length passes) (kept_by passes) other its found in
     subst (λ (calls : List KeptCall). IsLegalHistory equations (only other calls) records) (sym is.1)
-    (laws.apart equations (given_by (map calls_of passes)) records other (kept_by passes other) (given other is.0) legal))
+    (laws.apart equations (given_by (map calls_of passes)) records other (kept_by passes other) (given_in passes other numbered is.0) legal))
 
 -- all calls of a pass that had made none are these offers
 offered_all : (inbox : List TaggedPacket) (before after : PassValue) → HasOffered inbox before after → before.calls ≡ [] → AreOffersOf inbox after.calls
@@ -157,12 +162,12 @@ offered_all inbox before after gained none =
     subst (AreOffersOf inbox) (sym (gained.calls ∙ ap (λ (l : List KeptCall). l ++ gained.more) none)) gained.offers
 
 -- the calls of a pass are the offers of what was dealt to its worker
-are_offers : (equations : Equations) (receivers room generation : ℕ) (packets : List Packet) (bases : List BasisValue) (dealt before after : List Worker) (passes : List PassValue)
-    → AreDealt receivers packets dealt → HaveBases equations room bases dealt before
+pub are_offers : (equations : Equations) (receivers callers room generation : ℕ) (packets : List Packet) (bases : List BasisValue) (dealt before after : List Worker) (passes : List PassValue)
+    → AreDealt receivers callers packets dealt → HaveBases equations room bases dealt before
     → ((at : ℕ) (other : Worker) → at < length before → HasReceived (get_or before at other) (get_or after at other))
-    → length after ≡ length before → generation < length bases → AreOfGeneration generation after passes → (number : ℕ) → number < receivers
+    → length after ≡ length before → generation < length bases → AreOfGeneration generation after passes → (number : ℕ) → number < callers
     → AreOffersOf (dealt_to receivers number generation packets) (kept_by passes number)
-are_offers equations receivers room generation packets bases dealt before after passes parts have received same low are number in_range =
+are_offers equations receivers callers room generation packets bases dealt before after passes parts have received same low are number in_range =
     let dealt_there : number < length dealt = subst (λ (n : ℕ). number < n) (sym parts.count) in_range in
     let before_there : number < length before = subst (λ (n : ℕ). number < n) (sym have.count) dealt_there in
     let after_there : number < length after = subst (λ (n : ℕ). number < n) (sym same) before_there in
@@ -181,9 +186,47 @@ are_offers equations receivers room generation packets bases dealt before after 
     (offered_all (of_generation generation (get_or before number worker).inbox.items) (get_or (get_or before number worker).passes.items generation pass)
     (get_or (get_or after number worker).passes.items generation pass) gained was.calls))
 
+-- a basis that was closed with passes, whose calls are kept. callers: how many they are
+pub record IsClosedBy (equations : Equations) (callers : ℕ) (passes : List PassValue) (closed : Closed) : Type 0 where
+  pub fit : All (Fits equations.k equations.s) (packets_of closed.records.items)
+  pub stand : StandForAll equations.k equations.s (packets_of closed.records.items) closed.rows.items
+  pub count : length closed.callers.items ≡ callers
+  pub numbers : (number : ℕ) (other : CallerTrace) → number < callers → (get_or closed.callers.items number other).number ≡ number
+  pub calls : (number : ℕ) (other : CallerTrace) → number < callers → (get_or closed.callers.items number other).calls.items ≡ map call_of (kept_by passes number)
+  pub listed : All (λ entry. entry.caller < callers) closed.records.items
+  pub legal : IsLegalHistory equations (given_below callers (kept_by passes)) closed.records.items
+
+pub closed_by : HistoryLaws → (equations : Equations) (generation count : ℕ) (basis : BasisValue) (made_for : ℕ) (passes : List PassValue) (closed : Closed)
+    → 1 ≤ count → length passes ≡ count → IsMadeWith basis.parameters generation equations.k equations.s made_for equations
+    → ((number : ℕ) (other : PassValue) → number < length passes → (get_or passes number other).number ≡ number)
+    → IsCloseOf basis passes closed → IsClosedBy equations count passes closed
+closed_by laws equations generation count basis made_for passes closed some counted made numbered closes =
+    let caller : (number : ℕ) (other : CallerTrace) → number < count
+    → ((get_or closed.callers.items number other).number ≡ number) × ((get_or closed.callers.items number other).calls.items ≡ map call_of (kept_by passes number)) =
+    λ number other in_range.
+    let there : number < length passes = subst (λ (n : ℕ). number < n) (sym counted) in_range in
+    let pass : PassValue = some_of passes number there in
+    let caller' = closes.callers number other pass there in (
+      caller'.0 ∙ numbered number pass there,
+      caller'.1 ∙ ap (map call_of) (sym (get_or-map (λ (p : PassValue). p.calls) passes number pass [] there)),
+    ) in
+    record {
+      fit = subst (λ (n : ℕ). All (Fits n equations.s) (packets_of closed.records.items)) made.same_k
+          (subst (λ (n : ℕ). All (Fits basis.parameters.k n) (packets_of closed.records.items)) made.same_s closes.fit);
+      stand = subst (λ (n : ℕ). StandForAll n equations.s (packets_of closed.records.items) closed.rows.items) made.same_k
+          (subst (λ (n : ℕ). StandForAll basis.parameters.k n (packets_of closed.records.items) closed.rows.items) made.same_s closes.stand);
+      count = closes.count ∙ counted;
+      numbers = λ number other in_range. (caller number other in_range).0;
+      calls = λ number other in_range. (caller number other in_range).1;
+      listed = subst (λ (n : ℕ). All (λ entry. entry.caller < n) closed.records.items) counted closes.listed;
+      legal = subst (λ (n : ℕ). IsLegalHistory equations (given_below n (kept_by passes)) closed.records.items) counted
+          (legal_below laws equations closed.records.items passes (omega arith) numbered
+          (subst (λ (e : Equations). IsLegalHistory e (given_by (map calls_of passes)) closed.records.items) made.same_equations closes.legal));
+    }
+
 -- the closed basis of a generation holds what was received
 pub is_received : HistoryLaws → (equations : Equations) (receivers room generation : ℕ) (packets : List Packet) (bases : List BasisValue) (dealt before after : List Worker) (closed : Closed)
-    → 1 ≤ receivers → AreDealt receivers packets dealt → HaveBases equations room bases dealt before
+    → 1 ≤ receivers → AreDealt receivers receivers packets dealt → HaveBases equations room bases dealt before
     → ((at : ℕ) (other : Worker) → at < length before → HasReceived (get_or before at other) (get_or after at other))
     → length after ≡ length before → generation < length bases → IsClosedOf bases after generation closed → IsReceivedBy equations receivers generation packets closed
 is_received laws equations receivers room generation packets bases dealt before after closed some parts have received same low is =
@@ -200,29 +243,17 @@ is_received laws equations receivers room generation packets bases dealt before 
     let worker : Worker = some_of after number (after_there number in_range) in
     ap (λ (p : PassValue). p.number) (is.are.each number worker other (after_there number in_range))
     ∙ (all.each number generation worker basis other (after_there number in_range) low).1 in
-    let caller : (number : ℕ) (other : CallerTrace) → number < receivers
-    → ((get_or closed.callers.items number other).number ≡ number) × ((get_or closed.callers.items number other).calls.items ≡ map call_of (kept_by passes number)) =
-    λ number other in_range.
-    let there : number < length passes = subst (λ (n : ℕ). number < n) (sym count) in_range in
-    let pass : PassValue = some_of passes number there in
-    let caller' = closes.callers number other pass there in (
-      caller'.0 ∙ numbered number pass there,
-      caller'.1 ∙ ap (map call_of) (sym (get_or-map (λ (p : PassValue). p.calls) passes number pass [] there)),
-    ) in
+    let by = closed_by laws equations generation receivers (get_or bases generation basis) (length dealt) passes closed some count made numbered closes in
     record {
-      fit = subst (λ (n : ℕ). All (Fits n equations.s) (packets_of closed.records.items)) made.same_k
-          (subst (λ (n : ℕ). All (Fits (get_or bases generation basis).parameters.k n) (packets_of closed.records.items)) made.same_s closes.fit);
-      stand = subst (λ (n : ℕ). StandForAll n equations.s (packets_of closed.records.items) closed.rows.items) made.same_k
-          (subst (λ (n : ℕ). StandForAll (get_or bases generation basis).parameters.k n (packets_of closed.records.items) closed.rows.items) made.same_s closes.stand);
-      count = closes.count ∙ count;
-      numbers = λ number other in_range. (caller number other in_range).0;
+      fit = by.fit;
+      stand = by.stand;
+      count = by.count;
+      numbers = by.numbers;
       kept = kept_by passes;
-      calls = λ number other in_range. (caller number other in_range).1;
-      listed = subst (λ (n : ℕ). All (λ entry. entry.caller < n) closed.records.items) count closes.listed;
-      offers = are_offers equations receivers room generation packets bases dealt before after passes parts have received same low is.are;
-      legal = subst (λ (n : ℕ). IsLegalHistory equations (given_below n (kept_by passes)) closed.records.items) count
-          (legal_below laws equations closed.records.items passes (omega arith) numbered
-          (subst (λ (e : Equations). IsLegalHistory e (given_by (map calls_of passes)) closed.records.items) made.same_equations closes.legal));
+      calls = by.calls;
+      listed = by.listed;
+      offers = are_offers equations receivers receivers room generation packets bases dealt before after passes parts have received same low is.are;
+      legal = by.legal;
     }
 
 -- workers that were given bases as a slice, and written back

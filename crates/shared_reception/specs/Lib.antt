@@ -1,3 +1,5 @@
 pub mod Dealing
 pub mod Received
+pub mod Relayed
+pub mod Relaying
 pub mod Steps

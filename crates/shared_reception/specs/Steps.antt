@@ -1,4 +1,5 @@
--- What the steps of a reception do to the workers, one for each receiver, by number.
+-- What the steps of a reception do to the workers, one for each caller, by number.
+-- callers: the receivers, and for a relay after them the sender, which gets no packets.
 -- room: for how many calls each pass has room. before, after: workers before a step and after it.
 use Rattle.std.specs.Prelude.{◌≡◌, ℕ, ◌<◌, List, [], ◌∷◌, ◌++◌, length, slice_index_or}
 use Rattle.linear_spec.specs.declared.equations.Equations.{Equations}
@@ -11,11 +12,17 @@ use Rattle.shared_basis.specs.Passes.{IsNewPass, IsPassOf}
 use Rattle.receive_pass.specs.declared.worker.Worker.{Worker}
 use Rattle.shared_reception.specs.Dealing.{inbox_of}
 
--- as many workers as receivers, each with its part of the packets, and with no passes
-pub record AreDealt (receivers : ℕ) (packets : List Packet) (workers : List Worker) : Type 0 where
-  pub count : length workers ≡ receivers
-  pub inboxes : (number : ℕ) (other : Worker) → number < receivers → (slice_index_or workers number other).inbox.items ≡ inbox_of receivers number packets
-  pub passes : (number : ℕ) (other : Worker) → number < receivers → (slice_index_or workers number other).passes.items ≡ []
+-- as many workers as callers, with no packets and no passes
+pub record AreIdle (callers : ℕ) (workers : List Worker) : Type 0 where
+  pub count : length workers ≡ callers
+  pub inboxes : (number : ℕ) (other : Worker) → number < callers → (slice_index_or workers number other).inbox.items ≡ []
+  pub passes : (number : ℕ) (other : Worker) → number < callers → (slice_index_or workers number other).passes.items ≡ []
+
+-- as many workers as callers, each with its part of the packets, and with no passes
+pub record AreDealt (receivers callers : ℕ) (packets : List Packet) (workers : List Worker) : Type 0 where
+  pub count : length workers ≡ callers
+  pub inboxes : (number : ℕ) (other : Worker) → number < callers → (slice_index_or workers number other).inbox.items ≡ inbox_of receivers number packets
+  pub passes : (number : ℕ) (other : Worker) → number < callers → (slice_index_or workers number other).passes.items ≡ []
 
 -- a worker has got this pass as its last one, and has the same packets
 pub record HasGained (pass : PassValue) (before after : Worker) : Type 0 where

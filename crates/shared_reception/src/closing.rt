@@ -32,7 +32,7 @@ pub(crate) fn close_bases(
 }
 
 /// Takes each worker's last pass.
-fn take_passes(alloc: Global, workers: &mut [Worker]) -> Result<List<Pass>, Memory>
+pub(crate) fn take_passes(alloc: Global, workers: &mut [Worker]) -> Result<List<Pass>, Memory>
     requires { (number : ℕ) (other : worker_type) → number < length workers.old → 1 ≤ length (slice_index_or workers.old number other).passes.items }
     ensures { IfOk result (λ passes. HaveGained passes.items workers.new workers.old) }
 {
@@ -44,7 +44,7 @@ fn take_passes(alloc: Global, workers: &mut [Worker]) -> Result<List<Pass>, Memo
 }
 
 /// Closes a basis, or lets it go where memory is wanting.
-fn close(alloc: Global, basis: SharedBasis, passes: List<Pass>) -> Result<Closed, Memory>
+pub(crate) fn close(alloc: Global, basis: SharedBasis, passes: List<Pass>) -> Result<Closed, Memory>
     requires { AreAllPasses basis passes.items }
     ensures { IfOk result (IsCloseOf basis passes.items) }
 {

@@ -35,7 +35,7 @@ pub fn receive_packets<R: Threads + Sync, G: Gate>(
         → IsReceivedBy equations.now receivers generation packets.items (slice_index_or list.items generation other)) }
 {
     basis_core::laws::histories();
-    let mut workers = deal(alloc, packets, receivers)?;
+    let mut workers = deal(alloc, packets, receivers, receivers)?;
     let room = longest_inbox(workers.as_slice());
     let bases = make_bases(alloc, equations, workers.as_mut_slice(), room)?;
     receive_all(rt, gate, &bases, equations, &mut workers);

@@ -11,5 +11,5 @@ loop-tag-preserved c =
     let next = popped_next packets c.loop-tag.packets.items c.pop.new.self.items tag c.pop.result packet packet c.loop-tag.invariant.left c.pop.ensures.items c.unwrap-packet.ensures in
     record {
       left = next.0;
-      dealt = dealt_more tag packets packet c.loop-tag.workers _ c.index-workers-receiver.result (omega arith) c.loop-tag.invariant.dealt next.2 next.1 c.in_ok-push.ensures.ok refl;
+      dealt = dealt_more c.args.receivers tag packets packet c.loop-tag.workers _ c.index-workers-receiver.result c.requires.some (omega arith) c.loop-tag.invariant.dealt next.2 next.1 c.in_ok-push.ensures.ok refl;
     }

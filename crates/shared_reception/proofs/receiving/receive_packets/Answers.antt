@@ -8,11 +8,11 @@ use Rattle.shared_reception.proofs.receiving.receive_packets.Goals as goal
 pub longest_inbox-room-requires : goal.longest_inbox-room-requires
 longest_inbox-room-requires g c =
     All-same (λ (worker : Worker). length worker.inbox.items < 4294967296) c.as_slice.result.now c.in_ok-workers.workers.items c.as_slice.ensures
-    (few_dealt c.args.receivers c.args.packets.items c.in_ok-workers.workers.items c.in_ok-workers.ensures c.requires.few)
+    (few_dealt c.args.receivers c.args.receivers c.args.packets.items c.in_ok-workers.workers.items c.in_ok-workers.ensures c.requires.few)
 
 pub receive_all-requires-after_bounds : goal.receive_all-requires-after_bounds
 receive_all-requires-after_bounds g c κs within =
-    all_ready c.args.equations.now c.args.receivers c.longest_inbox-room.result c.args.packets.items c.in_ok-bases.bases.items c.in_ok-workers.workers.items _
+    all_ready c.args.equations.now c.args.receivers c.args.receivers c.longest_inbox-room.result c.args.packets.items c.in_ok-bases.bases.items c.in_ok-workers.workers.items _
     c.in_ok-workers.ensures c.requires.testable
     (written_back c.args.equations.now c.longest_inbox-room.result c.in_ok-bases.bases.items c.in_ok-workers.workers.items c.as_mut_slice.result.now c.make_bases.new.workers
     c.as_mut_slice.ensures.value c.in_ok-bases.ensures.bases)
