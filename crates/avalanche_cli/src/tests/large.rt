@@ -192,7 +192,7 @@ fn a_large_file_comes_back_through_eight_receivers(rt: HostRuntime) -> Result<()
     let file = random_bytes(alloc, 16_777_216)?;
     let (end, stream) = run_large(&rt, alloc, "seed", file.as_slice())?;
     assert_eq!(rt; end, End::Done);
-    for _round in 0..2 {
+    for _round in 0..8 {
         let (end, copy) = run_large(&rt, alloc, "fetch --receivers 8", stream.bytes())?;
         assert_eq!(rt; end, End::Done);
         assert!(rt; copy.bytes() == file.as_slice());
