@@ -17,7 +17,8 @@ pub fn spans()
     linear_spec::laws::combinations();
 }
 
-/// Where all packets of the front are true to a source, so is the packet drawn, and the polluted one over them is not.
+/// Drawing keeps truth, and pollution breaks it: over a front whose packets are true to some blocks the packet drawn is true to
+/// them too, and with a polluted draw's change, where there is a payload, it no longer is.
 pub fn truth()
     ensures drawn { (k s generation link q : ℕ) (key : List ℕ) (front : List Packet) (blocks : List (List ℕ))
         → All (Fits k s) front → All (IsTrueTo s blocks) front → length blocks ≡ k → All (IsVector s) blocks

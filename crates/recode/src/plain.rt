@@ -17,7 +17,6 @@ pub fn draw_plain(key: &[u8; 32], link: u32, q: u32, packets: &List<Packet>, out
     requires few { length packets.now.items ≤ 64 }
     requires fit { All (Fits (length out.old.coeffs) (length out.old.payload)) packets.now.items }
     requires generation { All (λ packet. packet.generation ≡ out.old.generation) packets.now.items }
-    requires link { link ≤ 65535 }
     ensures { out.new ≡ drawn_packet (length out.old.coeffs) (length out.old.payload) out.old.generation key.now link q packets.now.items }
 {
     let mut coefficients = [0; 64];

@@ -7,7 +7,7 @@ use gf16::Gf;
 use linear_spec::Packet;
 use rand_core::utils::NextWord;
 
-/// Adds the change of a polluted draw to the first symbol of the payload. All else of `out` stays. Takes no memory.
+/// Adds the change of a polluted draw to the first symbol of the payload, and touches nothing else of `out`. Takes no memory.
 pub fn pollute(key: &[u8; 32], link: u32, q: u32, out: &mut Packet)
     requires { 1 ≤ length out.old.payload }
     ensures { out.new ≡ polluted_packet key.now link q out.old }

@@ -112,7 +112,7 @@ fn an_empty_basis_draws_nothing(rt: HostRuntime) -> Result<(), Fail> {
 }
 
 // The words of the tests below come from a Python script after the block function of RFC 8439, with the number of the block in
-// the third row's 64 low bits and the stream in the 64 high ones; it gives the words of the standard's appendix A.1. With the key of
+// the last row's 64 low bits and the stream in the 64 high ones; it gives the words of the standard's appendix A.1. With the key of
 // zero bytes the word of stream 16 at place 0 is E55922C0, and at place 255 EADF2809; that of stream 65551 at place 256 (2^32 - 1)
 // is 47891BD8; those of stream 17 at places 0 and 1 are 8D35F17F and B7F3F8BC. Products are from a script that divides polynomials.
 #[test]

@@ -1,5 +1,5 @@
 //! The sender of one basis: it meets the receivers, and draws.
-ghost use Rattle.std.specs.Prelude.{◌≡◌, ◌≤◌, ◌<◌, ◌+◌, ◌*◌, [], IfOk};
+ghost use Rattle.std.specs.Prelude.{◌≡◌, ◌≤◌, ◌<◌, ◌+◌, ◌*◌, ◌^◌, [], IfOk};
 ghost use Rattle.std.specs.List.{All};
 ghost use Rattle.linear_spec.specs.Packet.{Fits};
 ghost use Rattle.linear_spec.specs.SequentialBasis.{packets_of};
@@ -40,7 +40,6 @@ pub(crate) fn draw_all(
     requires pass { IsPassOf basis.now sender.old }
     requires calls { sender.old.calls ≡ [] }
     requires room { sending.now.coded ≤ sender.old.spare }
-    requires generation { basis.now.parameters.generation < 256 }
     requires sending { (sending.now.link ≤ 65535) × (sending.now.coded ≤ 1024) }
     ensures { IfOk result (λ sent. let p = basis.now.parameters in HasDrawn p.k p.s sending.now p.generation sender.old sender.new sent.items) }
 {
@@ -66,7 +65,7 @@ fn draw_one(
     requires link { sending.now.link ≤ 65535 }
     ensures sees { IfOk result (λ sent. SeesOn sender.old sender.new) }
     ensures drawn { IfOk result (λ sent. IsDrawnAt (packets_of sender.new.seen) sent.drawn) }
-    ensures call { IfOk result (λ sent. HasCalled sender.old sender.new (KeptDraw (sending.now.link * 4294967296 + q) sent.drawn)) }
+    ensures call { IfOk result (λ sent. HasCalled sender.old sender.new (KeptDraw (sending.now.link * 2 ^ 32 + q) sent.drawn)) }
     ensures generation { IfOk result (λ sent. sent.generation ≡ basis.now.parameters.generation) }
     ensures number { IfOk result (λ sent. sent.q ≡ q) }
     ensures packet { let p = basis.now.parameters in IfOk result (λ sent. sent.packet

@@ -53,7 +53,7 @@ fn one_packet(alloc: Global, equations: &Equations) -> Result<List<Packet>, Memo
     Ok(packets)
 }
 
-/// The number of a draw, the front that it tells, or 0 where it tells nothing, its coefficient and its symbol.
+/// The generation of a draw, its number, the front that it tells, or 0 where it tells nothing, its coefficient and its symbol.
 fn told(draw: &SentDraw) -> (u16, u32, u16, u16, u16) {
     let front = match draw.drawn {
         Drawn::Sent { front } => front,

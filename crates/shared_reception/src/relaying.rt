@@ -31,7 +31,6 @@ pub fn relay_packets<R: Threads + Sync, G: Gate>(
     requires testable { All (IsTestable equations.now) packets.items }
     requires few { length packets.items < 2 ^ 32 }
     requires receivers { (1 ≤ receivers) × (receivers ≤ 15) }
-    requires generations { equations.now.generations ≤ 256 }
     requires sending { (sending.now.link ≤ 65535) × (sending.now.coded ≤ 1024) }
     ensures count { IfOk result (λ r. length r.bases.items ≡ equations.now.generations) }
     ensures each { IfOk result (λ r. (generation : ℕ) (other : closed_type) → generation < equations.now.generations

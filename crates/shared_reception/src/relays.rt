@@ -26,7 +26,6 @@ pub(crate) fn relay_bases(
     requires made { AreMadeWith equations.now (length workers.items) bases.items }
     requires passes { HaveAllPasses bases.items workers.items }
     requires sender { HaveSender sending.now.coded workers.items }
-    requires generations { length bases.items ≤ 256 }
     requires sending { (sending.now.link ≤ 65535) × (sending.now.coded ≤ 1024) }
     ensures count { IfOk result (λ r. length r.bases.items ≡ length bases.items) }
     ensures each { IfOk result (λ r. (generation : ℕ) (other : closed_type) → generation < length bases.items
@@ -56,7 +55,6 @@ fn relay_basis(
 ) -> Result<(Closed, List<SentDraw>), Memory>
     requires passes { AreAllPasses basis passes.items }
     requires sender { HasSender sending.now.coded passes.items }
-    requires generation { basis.parameters.generation < 256 }
     requires sending { (sending.now.link ≤ 65535) × (sending.now.coded ≤ 1024) }
     ensures closed { IfOk result (λ relayed. IsRelayOf sending.now basis passes.items relayed.0) }
     ensures draws { IfOk result (λ relayed. let p = basis.parameters in

@@ -1,4 +1,4 @@
-use Rattle.std.proofs.Common.{◌≡◌, ℕ, ◌<◌, ◌≤◌, ◌∙◌, ◌∷◌, [], ◌++◌, List, length, sym, subst, arith}
+use Rattle.std.proofs.Common.{◌≡◌, ◌∙◌, ◌∷◌, [], ◌++◌, List, length, sym, subst}
 use Rattle.shared_basis.specs.declared.params.Closed.{Closed}
 use Rattle.shared_basis.specs.Bases.{BasisValue, PassValue}
 use Rattle.receive_pass.specs.declared.worker.Worker.{Worker}
@@ -17,9 +17,6 @@ took : (sending : Sending) (bases left rest : List BasisValue) (basis : BasisVal
 took sending bases left rest basis workers now lent after passes list have from popped same gained =
     taken (IsRelayedOf sending bases workers) bases left rest basis workers now after passes list have from popped (subst (HaveGained passes after) same gained)
 
-below_all : (generation at count : ℕ) → generation ≡ at → at < count → count ≤ 256 → generation < 256
-below_all generation at count is low few = omega arith
-
 pub relay_basis-requires-clause-passes : goal.relay_basis-requires-clause-passes
 relay_basis-requires-clause-passes c =
     all_passes c.args.bases.items c.pop.new.self.items c.in-Some.basis c.args.workers.items c.take_passes.new.workers c.in_ok-passes.passes.items c.requires.passes
@@ -34,15 +31,6 @@ relay_basis-requires-clause-sender c =
     (took c.args.sending.now c.args.bases.items c.loop-basis.bases.items c.pop.new.self.items c.in-Some.basis c.args.workers.items c.loop-basis.workers.items
     c.as_mut_slice.result.now c.take_passes.new.workers c.in_ok-passes.passes.items c.loop-basis.list.items c.requires.passes c.loop-basis.invariant.closed c.in-Some.ensures.items
     c.as_mut_slice.ensures.value c.in_ok-passes.ensures)
-
-pub relay_basis-requires-clause-generation : goal.relay_basis-requires-clause-generation
-relay_basis-requires-clause-generation c =
-    let taken = took c.args.sending.now c.args.bases.items c.loop-basis.bases.items c.pop.new.self.items c.in-Some.basis c.args.workers.items c.loop-basis.workers.items
-    c.as_mut_slice.result.now c.take_passes.new.workers c.in_ok-passes.passes.items c.loop-basis.list.items c.requires.passes c.loop-basis.invariant.closed c.in-Some.ensures.items
-    c.as_mut_slice.ensures.value c.in_ok-passes.ensures in
-    let made = taken_made c.args.equations.now c.args.bases.items c.pop.new.self.items c.in-Some.basis c.args.workers.items c.take_passes.new.workers c.in_ok-passes.passes.items
-    c.requires.made taken in
-    below_all c.in-Some.basis.parameters.generation (length c.pop.new.self.items) (length c.args.bases.items) made.same_generation taken.within c.requires.generations
 
 pub loop-basis-preserved : goal.loop-basis-preserved
 loop-basis-preserved c =
