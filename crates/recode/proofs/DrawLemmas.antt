@@ -78,3 +78,16 @@ or_one-not_zero (suc n) = λ is.
 pub pollution-not_zero : (key : List ℕ) (link q : ℕ) → pollution_of key link q ≢ 0
 unfolding pollution_of
 pollution-not_zero key link q = or_one-not_zero (symbol_of_word (draw_word key link q 255))
+
+or_one-symbol : (symbol : ℕ) → IsSymbol symbol → IsSymbol (if symbol == 0 then 1 else symbol)
+or_one-symbol symbol is =
+    elim (symbol == 0) as (λ b. IsSymbol (if b then 1 else symbol)) [
+      | true ↦ omega arith
+      | false ↦ is
+    ]
+
+-- and that is a symbol
+pub pollution-symbol : (key : List ℕ) (link q : ℕ) → IsSymbol (pollution_of key link q)
+unfolding pollution_of
+pollution-symbol key link q =
+    let word = draw_word key link q 255 in or_one-symbol (symbol_of_word word) (omega arith)

@@ -2,8 +2,8 @@
 -- stream; docs/FORMATS.md).
 -- key: 32 bytes. link: the number of a link, whose draws have a stream of words of their own. q: the number of a draw on its
 -- link, from 0. front: the packets that there are to combine. k, s: the numbers of coefficients and of payload symbols of each
--- packet. generation: that of them all.
-use Rattle.std.specs.Prelude.{ℕ, ◌+◌, ◌-◌, ◌*◌, ◌%◌, ◌^◌, ◌==◌, if◌then◌else◌, List, map, length, slice_index, slice_set}
+-- packet. generation: that of them all. coded: how many draws a link makes of each generation.
+use Rattle.std.specs.Prelude.{ℕ, ◌+◌, ◌-◌, ◌*◌, ◌%◌, ◌^◌, ◌==◌, if◌then◌else◌, List, map, length, replicate, slice_index, slice_set}
 use Rattle.std.specs.List.{list_all, range_with_len}
 use Rattle.rand_chacha.specs.ChaCha.{word_at, key_of}
 use Rattle.gf16.specs.Field.{sum_of}
@@ -54,7 +54,23 @@ abbrev pub polluted_packet : List ℕ → ℕ → ℕ → Packet → Packet
 polluted_packet key link q packet =
     record packet { payload = slice_set packet.payload 0 (sum_of (slice_index packet.payload 0) (pollution_of key link q)) }
 
+-- the answer of a draw over n packets
+abbrev pub drawn_over : ℕ → Drawn
+drawn_over n = if n == 0 then Nothing else Sent n
+
+-- the packet of zeros
+abbrev pub zeros_of : ℕ → ℕ → ℕ → Packet
+zeros_of k s generation = record { generation = generation; coeffs = replicate k 0; payload = replicate s 0 }
+
 -- what a draw leaves in a packet that was handed in: the packet drawn, or at Nothing the packet as it was
 abbrev pub left_by : Drawn → Packet → Packet → Packet
 left_by (Sent front) drawn before = drawn
 left_by Nothing drawn before = before
+
+-- the numbers of a generation's draws: each generation has as many, one generation after another
+abbrev pub numbers_of : ℕ → ℕ → List ℕ
+numbers_of coded generation = range_with_len (generation * coded) coded
+
+-- the tag of a draw as a call: it tells the link and the number of the draw
+abbrev pub tag_of_draw : ℕ → ℕ → ℕ
+tag_of_draw link q = link * 2 ^ 32 + q

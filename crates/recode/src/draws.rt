@@ -1,12 +1,12 @@
 //! Draws over the records of a shared basis.
-ghost use Rattle.std.specs.Prelude.{◌≡◌, ◌<◌, ◌≤◌, ◌+◌, ◌*◌, ◌^◌, length};
+ghost use Rattle.std.specs.Prelude.{◌≡◌, ◌<◌, ◌≤◌, length};
 ghost use Rattle.linear_spec.specs.Combination.{combination_of};
 ghost use Rattle.linear_spec.specs.Packet.{coefficients_of, payloads_of};
 ghost use Rattle.linear_spec.specs.SequentialBasis.{packets_of};
 ghost use Rattle.basis_core.specs.Calls.{IsDrawnAt, KeptDraw};
 ghost use Rattle.shared_basis.specs.Desks.{HasLengths};
 ghost use Rattle.shared_basis.specs.Passes.{HasCalled, HasKept, HasLooked, IsFor, IsPassOf, SeesOn};
-ghost use Rattle.recode.specs.Draws.{drawn_packet, left_by, polluted_packet};
+ghost use Rattle.recode.specs.Draws.{drawn_packet, left_by, polluted_packet, tag_of_draw};
 
 use crate::coefficients::draw_coefficients;
 use crate::plain::clear;
@@ -34,7 +34,7 @@ pub fn draw(
     ensures packet { let p = basis.now.parameters in
         out.new ≡ left_by result (drawn_packet p.k p.s p.generation key.now link q (packets_of pass.new.seen)) out.old }
     ensures prefix { SeesOn pass.old pass.new }
-    ensures call { HasCalled pass.old pass.new (KeptDraw (link * 2 ^ 32 + q) result) }
+    ensures call { HasCalled pass.old pass.new (KeptDraw (tag_of_draw link q) result) }
     ensures looked { HasLooked pass.old pass.new }
 {
     let tag = u64::from(link) * 0x1_0000_0000 + u64::from(q);
@@ -67,7 +67,7 @@ pub fn draw_polluted(
     ensures packet { let p = basis.now.parameters in out.new
         ≡ left_by result (polluted_packet key.now link q (drawn_packet p.k p.s p.generation key.now link q (packets_of pass.new.seen))) out.old }
     ensures prefix { SeesOn pass.old pass.new }
-    ensures call { HasCalled pass.old pass.new (KeptDraw (link * 2 ^ 32 + q) result) }
+    ensures call { HasCalled pass.old pass.new (KeptDraw (tag_of_draw link q) result) }
     ensures looked { HasLooked pass.old pass.new }
 {
     let drawn = draw(basis, pass, key, link, q, out);

@@ -7,13 +7,16 @@ ghost use Rattle.linear_spec.specs.Packet.{Fits, IsTrueTo, vector_of, vectors_of
 ghost use Rattle.linear_spec.specs.Span.{InSpan};
 ghost use Rattle.recode.specs.Draws.{drawn_packet, polluted_packet};
 
-/// A packet drawn fits, and lies in the span of its front.
+/// A packet drawn fits, and lies in the span of its front. With a polluted draw's change it fits still.
 pub fn spans()
     ensures fits { (k s generation link q : ℕ) (key : List ℕ) (front : List Packet) → All (Fits k s) front
         → Fits k s (drawn_packet k s generation key link q front) }
     ensures span { (k s generation link q : ℕ) (key : List ℕ) (front : List Packet) → All (Fits k s) front
         → InSpan (k + s) (vectors_of front) (vector_of (drawn_packet k s generation key link q front)) }
+    ensures polluted { (k s generation link q : ℕ) (key : List ℕ) (front : List Packet) → All (Fits k s) front
+        → Fits k s (polluted_packet key link q (drawn_packet k s generation key link q front)) }
 {
+    gf16::laws::field();
     linear_spec::laws::combinations();
 }
 

@@ -1,5 +1,5 @@
 -- What the sender of one basis sees, and what it draws.
-use Rattle.std.proofs.Common.{◌≡◌, ℕ, ◌+◌, ◌*◌, ◌^◌, ◌<◌, ◌≤◌, List, [], ◌∷◌, ◌++◌, length, map, get_or, set, sym, refl, ap, ◌∙◌, subst, arith, eq-eqb, ne_eqb, length-append, append_assoc}
+use Rattle.std.proofs.Common.{◌≡◌, ℕ, ◌+◌, ◌*◌, ◌<◌, ◌≤◌, List, [], ◌∷◌, ◌++◌, length, map, get_or, set, sym, refl, ap, ◌∙◌, subst, arith, eq-eqb, ne_eqb, length-append, append_assoc}
 use Rattle.std.specs.Prelude.{Bool, None, cond}
 use Rattle.std.specs.List.{range_with_len}
 use Rattle.std.proofs.lemmas.List.{append-nil, get_or_default, length-map}
@@ -12,12 +12,12 @@ use Rattle.linear_spec.specs.declared.record.Record.{Record}
 use Rattle.linear_spec.specs.SequentialBasis.{packets_of}
 use Rattle.basis_core.specs.Calls.{IsDrawnAt, KeptCall, KeptDraw, recorded_by}
 use Rattle.basis_core.specs.Legal.{HaveSeenAtMost}
-use Rattle.recode.specs.Draws.{drawn_packet, left_by}
+use Rattle.recode.specs.Draws.{drawn_over, drawn_packet, left_by, tag_of_draw, zeros_of}
 use Rattle.shared_basis.specs.Bases.{PassValue}
 use Rattle.shared_basis.specs.Passes.{HasCalled, HasNotCalled, SeesOn}
 use Rattle.shared_reception.specs.declared.sends.SentDraw.{SentDraw}
 use Rattle.shared_reception.specs.declared.sends.Sending.{Sending}
-use Rattle.shared_reception.specs.Relayed.{drawn_over, sent_draw, zeros_of}
+use Rattle.shared_reception.specs.Relayed.{sent_draw}
 use Rattle.shared_reception.specs.Relaying.{AreQuiet, HasDrawn, HasMet, HaveMet}
 use Rattle.shared_reception.proofs.Changes.{AreChangedBelow, changed_as, changed_more}
 
@@ -93,7 +93,7 @@ pub record HasDrawnSome (k s : ℕ) (sending : Sending) (generation first place 
   pub sees : SeesOn before after
   pub quiet : AreQuiet after.calls
   pub calls : length after.seen ≡ length before.seen
-      → after.calls ≡ map (λ q. KeptDraw (sending.link * 2 ^ 32 + q) (drawn_over (length before.seen))) (range_with_len first place)
+      → after.calls ≡ map (λ q. KeptDraw (tag_of_draw sending.link q) (drawn_over (length before.seen))) (range_with_len first place)
   pub draws : length after.seen ≡ length before.seen → sent ≡ map (sent_draw k s sending generation before.seen) (range_with_len first place)
 
 pub drawn_none : (k s : ℕ) (sending : Sending) (generation first : ℕ) (before : PassValue) (sent : List SentDraw) → before.calls ≡ [] → sent ≡ []
@@ -124,13 +124,13 @@ draw_is k s sending generation q records seen made same answered of_generation n
 -- the next draw
 pub drawn_more : (k s : ℕ) (sending : Sending) (generation first place : ℕ) (before now after : PassValue) (made : SentDraw) (sent longer : List SentDraw)
     → HasDrawnSome k s sending generation first place before now sent → SeesOn now after → IsDrawnAt (packets_of after.seen) made.drawn
-    → HasCalled now after (KeptDraw (sending.link * 2 ^ 32 + (first + place)) made.drawn) → made.generation ≡ generation → made.q ≡ first + place
+    → HasCalled now after (KeptDraw (tag_of_draw sending.link (first + place)) made.drawn) → made.generation ≡ generation → made.q ≡ first + place
     → made.packet ≡ left_by made.drawn (drawn_packet k s generation sending.key sending.link (first + place) (packets_of after.seen)) (zeros_of k s generation)
     → longer ≡ sent ++ made ∷ [] → HasDrawnSome k s sending generation first (place + 1) before after longer
 drawn_more k s sending generation first place before now after made sent longer some sees answered called of_generation numbered packet is =
     let q : ℕ = first + place in
     let records : List Record = before.seen in
-    let call : Drawn → KeptCall = λ (d : Drawn). KeptDraw (sending.link * 2 ^ 32 + q) d in
+    let call : Drawn → KeptCall = λ (d : Drawn). KeptDraw (tag_of_draw sending.link q) d in
     let now_same : length after.seen ≡ length records → length now.seen ≡ length records =
     λ (same : length after.seen ≡ length records).
     let early = sees_more before now some.sees in let late = sees_more now after sees in omega arith in
@@ -145,8 +145,8 @@ drawn_more k s sending generation first place before now after made sent longer 
           (All-push (λ c. recorded_by c ≡ None) now.calls (call made.drawn) some.quiet refl);
       calls = λ same.
           called.calls ∙ ap (λ (l : List KeptCall). l ++ call made.drawn ∷ []) (some.calls (now_same same))
-          ∙ ap (λ (d : Drawn). map (λ n. KeptDraw (sending.link * 2 ^ 32 + n) (drawn_over (length records))) (range_with_len first place) ++ call d ∷ []) (drawn same)
-          ∙ sym (map-range_with_len_more (λ n. KeptDraw (sending.link * 2 ^ 32 + n) (drawn_over (length records))) first place q refl);
+          ∙ ap (λ (d : Drawn). map (λ n. KeptDraw (tag_of_draw sending.link n) (drawn_over (length records))) (range_with_len first place) ++ call d ∷ []) (drawn same)
+          ∙ sym (map-range_with_len_more (λ n. KeptDraw (tag_of_draw sending.link n) (drawn_over (length records))) first place q refl);
       draws = λ same.
           is ∙ ap (λ (l : List SentDraw). l ++ made ∷ []) (some.draws (now_same same))
           ∙ ap (λ (d : SentDraw). map (sent_draw k s sending generation records) (range_with_len first place) ++ d ∷ [])
@@ -161,8 +161,8 @@ drawn_all k s sending generation first place before after sent some from all = r
   sees = some.sees;
   quiet = some.quiet;
   calls = λ same. some.calls same
-      ∙ ap (λ (a : ℕ). map (λ q. KeptDraw (sending.link * 2 ^ 32 + q) (drawn_over (length before.seen))) (range_with_len a place)) from
-      ∙ ap (λ (n : ℕ). map (λ q. KeptDraw (sending.link * 2 ^ 32 + q) (drawn_over (length before.seen))) (range_with_len (generation * sending.coded) n)) all;
+      ∙ ap (λ (a : ℕ). map (λ q. KeptDraw (tag_of_draw sending.link q) (drawn_over (length before.seen))) (range_with_len a place)) from
+      ∙ ap (λ (n : ℕ). map (λ q. KeptDraw (tag_of_draw sending.link q) (drawn_over (length before.seen))) (range_with_len (generation * sending.coded) n)) all;
   draws = λ same. some.draws same
       ∙ ap (λ (a : ℕ). map (sent_draw k s sending generation before.seen) (range_with_len a place)) from
       ∙ ap (λ (n : ℕ). map (sent_draw k s sending generation before.seen) (range_with_len (generation * sending.coded) n)) all;

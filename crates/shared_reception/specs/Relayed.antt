@@ -2,12 +2,10 @@
 -- The receivers are numbered from 0. The sender, which draws, comes after them. records: those of a generation's closed basis.
 -- k, s: the numbers of coefficients and of payload symbols of each packet. q: the number of a draw on its link, counted from 0
 -- over all generations.
-use Rattle.std.specs.Prelude.{◌≡◌, ℕ, ◌+◌, ◌*◌, ◌^◌, ◌<◌, ◌==◌, if◌then◌else◌, List, [], ◌∷◌, ◌++◌, length, map, replicate, slice_index_or}
-use Rattle.std.specs.List.{All, range_with_len}
+use Rattle.std.specs.Prelude.{◌≡◌, ℕ, ◌+◌, ◌<◌, List, [], ◌∷◌, ◌++◌, length, map, slice_index_or}
+use Rattle.std.specs.List.{All}
 use Rattle.linear_spec.specs.declared.equations.Equations.{Equations}
 use Rattle.linear_spec.specs.declared.packet.Packet.{Packet}
-use Rattle.linear_spec.specs.declared.record.Drawn.{Drawn}
-use Rattle.linear_spec.specs.declared.record.Drawn.TheVariants.{Sent, Nothing}
 use Rattle.linear_spec.specs.declared.record.Record.{Record}
 use Rattle.linear_spec.specs.Packet.{Fits}
 use Rattle.linear_spec.specs.Rows.{StandForAll}
@@ -16,27 +14,15 @@ use Rattle.basis_core.specs.declared.trace.CallerTrace.{CallerTrace}
 use Rattle.basis_core.specs.Calls.{KeptCall, KeptDraw, call_of}
 use Rattle.basis_core.specs.Legal.{IsLegalHistory}
 use Rattle.receive_pass.specs.Workers.{AreOffersOf}
-use Rattle.recode.specs.Draws.{drawn_packet, left_by}
+use Rattle.recode.specs.Draws.{drawn_over, drawn_packet, left_by, numbers_of, tag_of_draw, zeros_of}
 use Rattle.shared_basis.specs.declared.params.Closed.{Closed}
 use Rattle.shared_reception.specs.declared.sends.SentDraw.{SentDraw}
 use Rattle.shared_reception.specs.declared.sends.Sending.{Sending}
 use Rattle.shared_reception.specs.Dealing.{dealt_to, given_below}
 
--- the answer of a draw over n records
-abbrev pub drawn_over : ℕ → Drawn
-drawn_over n = if n == 0 then Nothing else Sent n
-
--- the numbers of a generation's draws: each generation has as many, one generation after another
-abbrev pub numbers_of : Sending → ℕ → List ℕ
-numbers_of sending generation = range_with_len (generation * sending.coded) sending.coded
-
--- a generation's draws as calls, all over n records: the tag tells the link and the number of the draw
+-- a generation's draws as calls, all over n records
 abbrev pub draws_of : Sending → ℕ → ℕ → List KeptCall
-draws_of sending generation n = map (λ q. KeptDraw (sending.link * 2 ^ 32 + q) (drawn_over n)) (numbers_of sending generation)
-
--- the packet of zeros
-abbrev pub zeros_of : ℕ → ℕ → ℕ → Packet
-zeros_of k s generation = record { generation = generation; coeffs = replicate k 0; payload = replicate s 0 }
+draws_of sending generation n = map (λ q. KeptDraw (tag_of_draw sending.link q) (drawn_over n)) (numbers_of sending.coded generation)
 
 -- a draw over these records: zeros where there are none
 abbrev pub sent_draw : ℕ → ℕ → Sending → ℕ → List Record → ℕ → SentDraw
@@ -49,7 +35,7 @@ sent_draw k s sending generation records q = record {
 
 -- a generation's draws, all over these records
 abbrev pub sent_of : ℕ → ℕ → Sending → ℕ → List Record → List SentDraw
-sent_of k s sending generation records = map (sent_draw k s sending generation records) (numbers_of sending generation)
+sent_of k s sending generation records = map (sent_draw k s sending generation records) (numbers_of sending.coded generation)
 
 -- the draws of generations from this one on, each over its records
 abbrev pub sent_from : ℕ → ℕ → Sending → ℕ → List (List Record) → List SentDraw

@@ -1,12 +1,11 @@
 //! The sender of one basis: it meets the receivers, and draws.
-ghost use Rattle.std.specs.Prelude.{◌≡◌, ◌≤◌, ◌<◌, ◌+◌, ◌*◌, ◌^◌, [], IfOk};
+ghost use Rattle.std.specs.Prelude.{◌≡◌, ◌≤◌, ◌<◌, [], IfOk};
 ghost use Rattle.std.specs.List.{All};
 ghost use Rattle.linear_spec.specs.Packet.{Fits};
 ghost use Rattle.linear_spec.specs.SequentialBasis.{packets_of};
 ghost use Rattle.basis_core.specs.Calls.{IsDrawnAt, KeptDraw};
-ghost use Rattle.recode.specs.Draws.{drawn_packet, left_by};
+ghost use Rattle.recode.specs.Draws.{drawn_packet, left_by, tag_of_draw, zeros_of};
 ghost use Rattle.shared_basis.specs.Passes.{HasCalled, HasNotCalled, IsPassOf, SeesOn};
-ghost use Rattle.shared_reception.specs.Relayed.{zeros_of};
 ghost use Rattle.shared_reception.specs.Relaying.{HasDrawn, HaveMet};
 
 use crate::sends::{Sending, SentDraw};
@@ -65,7 +64,7 @@ fn draw_one(
     requires link { sending.now.link ≤ 65535 }
     ensures sees { IfOk result (λ sent. SeesOn sender.old sender.new) }
     ensures drawn { IfOk result (λ sent. IsDrawnAt (packets_of sender.new.seen) sent.drawn) }
-    ensures call { IfOk result (λ sent. HasCalled sender.old sender.new (KeptDraw (sending.now.link * 2 ^ 32 + q) sent.drawn)) }
+    ensures call { IfOk result (λ sent. HasCalled sender.old sender.new (KeptDraw (tag_of_draw sending.now.link q) sent.drawn)) }
     ensures generation { IfOk result (λ sent. sent.generation ≡ basis.now.parameters.generation) }
     ensures number { IfOk result (λ sent. sent.q ≡ q) }
     ensures packet { let p = basis.now.parameters in IfOk result (λ sent. sent.packet
