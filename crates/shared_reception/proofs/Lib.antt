@@ -3,6 +3,7 @@ pub mod Changes
 pub mod ClosedRelays
 pub mod Closings
 pub mod Dealt
+pub mod DrawFits
 pub mod Lists
 pub mod Made
 pub mod Receptions

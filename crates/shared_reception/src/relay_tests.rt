@@ -1,4 +1,4 @@
-ghost use Rattle.std.specs.Prelude.{◌≡◌, length, IfOk};
+ghost use Rattle.std.specs.Prelude.{◌≡◌, ◌<◌, length, IfOk};
 ghost use Rattle.std.specs.List.{All};
 ghost use Rattle.linear_spec.specs.Passing.{AreEquations, IsTestable};
 
@@ -25,14 +25,15 @@ fn small_equations(alloc: Global) -> Result<Equations, Memory>
     })
 }
 
-/// A packet of generation 0.
-fn small_packet(alloc: Global, equations: &Equations) -> Result<Packet, Memory>
+/// A packet of this generation.
+fn small_packet(alloc: Global, equations: &Equations, generation: u16) -> Result<Packet, Memory>
     requires equations { AreEquations equations.now }
     requires shape { (equations.now.k ≡ 1) × (equations.now.s ≡ 1) × (equations.now.generations ≡ 2) }
+    requires generation { generation < 2 }
     ensures { IfOk result (IsTestable equations.now) }
 {
     let packet = Packet {
-        generation: 0,
+        generation,
         coeffs: SymVec::from_slice(alloc, &[1])?,
         payload: SymVec::from_slice(alloc, &[0x6162])?,
     };
@@ -41,13 +42,14 @@ fn small_packet(alloc: Global, equations: &Equations) -> Result<Packet, Memory>
 }
 
 /// That packet and no other.
-fn one_packet(alloc: Global, equations: &Equations) -> Result<List<Packet>, Memory>
+fn one_packet(alloc: Global, equations: &Equations, generation: u16) -> Result<List<Packet>, Memory>
     requires equations { AreEquations equations.now }
     requires shape { (equations.now.k ≡ 1) × (equations.now.s ≡ 1) × (equations.now.generations ≡ 2) }
+    requires generation { generation < 2 }
     ensures count { IfOk result (λ packets. length packets.items ≡ 1) }
     ensures testable { IfOk result (λ packets. All (IsTestable equations.now) packets.items) }
 {
-    let packet = small_packet(alloc, equations)?;
+    let packet = small_packet(alloc, equations, generation)?;
     let mut packets = List::new(alloc);
     packets.push(packet)?;
     Ok(packets)
@@ -80,12 +82,13 @@ fn call_counts(closed: &Closed) -> [usize; 3] {
 }
 
 // The words are from a Python script after the block function of RFC 8439: with the key of zero bytes those of stream 16 at
-// places 0 and 256 are E55922C0 and 0EC439BE. Products are from a script that divides polynomials.
+// places 0 and 256 are E55922C0 and 0EC439BE, and those of stream 19 at places 512 and 768 are BE290DD6 and
+// 58FD2DC6. Products are from a script that divides polynomials.
 #[test]
 fn a_relay_draws_over_all_records(rt: HostRuntime) -> Result<(), Fail> {
     let alloc = rt.alloc();
     let equations = small_equations(alloc)?;
-    let packets = one_packet(alloc, &equations)?;
+    let packets = one_packet(alloc, &equations, 0)?;
     let sending = Sending {
         key: [0; 32],
         link: 0,
@@ -103,5 +106,25 @@ fn a_relay_draws_over_all_records(rt: HostRuntime) -> Result<(), Fail> {
     let second = relayed.bases.get(1).ok_or("the second")?;
     assert_eq!(rt; call_counts(first), [1, 0, 2]);
     assert_eq!(rt; call_counts(second), [0, 0, 2]);
+    Ok(())
+}
+
+#[test]
+fn a_relay_numbers_its_draws_on(rt: HostRuntime) -> Result<(), Fail> {
+    let alloc = rt.alloc();
+    let equations = small_equations(alloc)?;
+    let packets = one_packet(alloc, &equations, 1)?;
+    let sending = Sending {
+        key: [0; 32],
+        link: 3,
+        coded: 2,
+    };
+    let relayed = relay_packets(&rt, alloc, &NoGate, &equations, packets, 2, &sending)?;
+    let sent = relayed.sent.as_slice();
+    assert_eq!(rt; sent.len(), 4);
+    assert_eq!(rt; told(&sent[0]), (0, 0, 0, 0, 0));
+    assert_eq!(rt; told(&sent[1]), (0, 1, 0, 0, 0));
+    assert_eq!(rt; told(&sent[2]), (1, 2, 1, 0x0DD6, 0xB2AE));
+    assert_eq!(rt; told(&sent[3]), (1, 3, 1, 0x2DC6, 0xD682));
     Ok(())
 }

@@ -1,5 +1,6 @@
 ghost use Rattle.std.specs.Prelude.{◌≡◌, ◌<◌, ◌≤◌, ◌^◌, ℕ, length, slice_index_or, IfOk};
 ghost use Rattle.std.specs.List.{All};
+ghost use Rattle.linear_spec.specs.Packet.{Fits};
 ghost use Rattle.linear_spec.specs.Passing.{AreEquations, IsTestable};
 ghost use Rattle.shared_basis.specs.declared.params.Closed.{Closed as closed_type};
 ghost use Rattle.shared_reception.specs.Relayed.{IsRelayedBy, sent_of_all};
@@ -36,8 +37,10 @@ pub fn relay_packets<R: Threads + Sync, G: Gate>(
     ensures each { IfOk result (λ r. (generation : ℕ) (other : closed_type) → generation < equations.now.generations
         → IsRelayedBy equations.now receivers generation packets.items sending.now (slice_index_or r.bases.items generation other)) }
     ensures sent { IfOk result (λ r. r.sent.items ≡ sent_of_all equations.now.k equations.now.s sending.now r.bases.items) }
+    ensures fits { IfOk result (λ r. All (λ draw. Fits equations.now.k equations.now.s draw.packet) r.sent.items) }
 {
     basis_core::laws::histories();
+    recode::laws::spans();
     let mut workers = deal(alloc, packets, receivers, receivers + 1)?;
     let room = longest_inbox(workers.as_slice()).max(sending.coded);
     let bases = make_bases(alloc, equations, workers.as_mut_slice(), room)?;

@@ -6,6 +6,7 @@ use Rattle.linear_spec.specs.declared.equations.Equations.{Equations}
 use Rattle.shared_basis.specs.Bases.{BasisValue}
 use Rattle.receive_pass.specs.declared.worker.Worker.{Worker}
 use Rattle.shared_reception.specs.Steps.{AreMadeWith, HaveBases}
+use Rattle.shared_reception.proofs.DrawFits.{all_fit}
 use Rattle.shared_reception.proofs.Receptions.{HistoryLaws, all_left, all_ready, few_dealt, written_back}
 use Rattle.shared_reception.proofs.RelayReceptions.{is_relayed, sender_left}
 use Rattle.shared_reception.proofs.relaying.relay_packets.Goals as goal
@@ -75,3 +76,8 @@ returns-clause-each g c =
     (written_back c.args.equations.now c.max-room.result c.in_ok-bases.bases.items c.in_ok-workers.workers.items c.as_mut_slice.result.now c.make_bases.new.workers
     c.as_mut_slice.ensures.value c.in_ok-bases.ensures.bases)
     c.receive_all.ensures.each c.receive_all.ensures.count there (each generation other there)) c.relay_bases.ensures.each
+
+pub returns-clause-fits : goal.returns-clause-fits
+returns-clause-fits g c =
+    all_fit c.relay_bases.result c.spans.ensures.fits c.args.equations.now c.args.receivers c.args.packets.items c.args.sending.now
+    (IfOk-weaker c.relay_bases.result _ _ (λ relayed same. same ∙ c.in_ok-bases.ensures.count) c.relay_bases.ensures.count) (returns-clause-each g c) c.relay_bases.ensures.sent
