@@ -15,9 +15,9 @@ use gf16::Gf;
 use linear_spec::{Drawn, Packet};
 use shared_basis::{Pass, SharedBasis};
 
-/// Draws over the records that a look has then seen: `out` becomes the combination of their packets with the draw's coefficients.
-/// Where there are none, it stays as it is. The pass keeps the draw, with a tag that tells its link and its number. Takes no
-/// memory.
+/// Draws over the records that a look has then seen: `out`, a packet of the basis's K coefficients, S symbols and generation,
+/// becomes the combination of their packets with the draw's coefficients. Where there are none, it stays as it is. The pass keeps
+/// the draw, under the tag `link * 2^32 + q`; a link is at most 65,535. Takes no memory.
 pub fn draw(
     basis: &SharedBasis,
     pass: &mut Pass,

@@ -11,7 +11,8 @@ use gf_lanes::add_scaled;
 use gf16::Gf;
 use linear_spec::{List, Packet};
 
-/// Draws over a list: `out` becomes the combination of its packets with the draw's coefficients. Takes no memory.
+/// Draws over a list of 1 to 64 packets, all of the lengths and the generation of `out`: `out` becomes the combination of them with
+/// the draw's coefficients. Takes no memory.
 pub fn draw_plain(key: &[u8; 32], link: u32, q: u32, packets: &List<Packet>, out: &mut Packet)
     requires some { 1 ≤ length packets.now.items }
     requires few { length packets.now.items ≤ 64 }

@@ -17,7 +17,8 @@ use std::thread::Threads;
 
 /// Receives packets as `receive_packets` does, with a caller more, the sender, numbered after the receivers. Once all receivers
 /// are done, the sender meets each of them on each generation's basis, and then draws from it as often as is to be sent: so
-/// each draw is over all the records. The draws are numbered on over all generations.
+/// each draw is over all the records. The draws are numbered on over all generations. There are 1 to 15 receivers. The one error
+/// is want of memory.
 pub fn relay_packets<R: Threads + Sync, G: Gate>(
     rt: &R,
     alloc: Global,

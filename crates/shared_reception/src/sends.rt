@@ -2,11 +2,14 @@
 use linear_spec::{Drawn, List, Packet};
 use shared_basis::Closed;
 
-/// What a relay sends of each generation: so many draws, on this link, by this key.
+/// What a relay sends of each generation.
 #[derive(Clone, Copy, Debug, PartialEq, Eq)]
 pub struct Sending {
+    /// The key whose random words the draws use.
     pub key: [u8; 32],
+    /// The link that they are for, at most 65,535.
     pub link: u32,
+    /// How many draws of each generation there are, at most 1,024.
     pub coded: u32,
 }
 
