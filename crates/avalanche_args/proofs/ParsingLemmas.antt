@@ -26,11 +26,13 @@ simple : (command : CommandName) → is_simple (parser_of command) ≡ true
 unfolding parser_of
 simple name.Seed = refl
 simple name.Fetch = refl
+simple name.Relay = refl
 
 free : (command : CommandName) → is_simple_and_free (parser_of command) ≡ true
 unfolding parser_of
 free name.Seed = refl
 free name.Fetch = refl
+free name.Relay = refl
 
 -- words without a fault are taken, and give what the parse found
 pub taken : (command : CommandName) (app : App) (words : List Text) (matches : ArgMatches) → app ≡ parser_of command

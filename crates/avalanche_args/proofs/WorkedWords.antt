@@ -6,8 +6,8 @@ use Rattle.avalanche_args.specs.CommandOf.{command_of, first_wrong, found_in, is
 use Rattle.avalanche_args.specs.CommandOf.{text_given}
 use Rattle.avalanche_args.specs.Numbers.{is_right, number_of}
 use Rattle.avalanche_args.specs.Options.{takes}
-use Rattle.avalanche_args.specs.declared.command.Command.TheVariants.{Seed, Fetch}
-use Rattle.avalanche_args.specs.declared.option.OptionName.TheVariants.{Block, Receivers}
+use Rattle.avalanche_args.specs.declared.command.Command.TheVariants.{Seed, Fetch, Relay}
+use Rattle.avalanche_args.specs.declared.option.OptionName.TheVariants.{Block, Coded, Receivers}
 use Rattle.avalanche_args.specs.declared.usage.WordClass.TheVariants.{NoCommand, UnknownCommand, BadWords, BadNumber}
 
 no_word : command_of [] ≡ Err NoCommand
@@ -46,3 +46,15 @@ defaults : command_of (codes "seed" ∷ codes "--bare=1" ∷ [])
 unfolding command_of read_as is_refused found_in parser_of judged_as first_wrong text_given is_right number_of
     takes clap_on_literals
 defaults = refl
+
+of_relay : command_of (codes "relay" ∷ codes "--link=0" ∷ [])
+    ≡ Ok (Relay (record { receivers = 2; key = 1; link = 0; coded = 64 }))
+unfolding command_of read_as is_refused found_in parser_of judged_as first_wrong text_given is_right number_of
+    takes clap_on_literals
+of_relay = refl
+
+coded_before_link : command_of (codes "relay" ∷ codes "--link" ∷ codes "65536" ∷ codes "--coded" ∷ codes "1025" ∷ [])
+    ≡ Err (BadNumber Coded)
+unfolding command_of read_as is_refused found_in parser_of judged_as first_wrong text_given is_right number_of
+    takes clap_on_literals
+coded_before_link = refl

@@ -7,10 +7,10 @@ use Rattle.clap.specs.Walk.{Row, Rule, Text, first_of, is_empty}
 use Rattle.clap.specs.Simple.{App, matches_of, new_app, new_rule, on_top, with_rule}
 use Rattle.clap.specs.Faults.{fault_of}
 use Rattle.avalanche_args.specs.Numbers.{is_right, number_of}
-use Rattle.avalanche_args.specs.Options.{bare, block, blocks, checks, command_named, key, options_of, peer, receivers}
-use Rattle.avalanche_args.specs.Options.{text_of, word_of}
+use Rattle.avalanche_args.specs.Options.{bare, block, blocks, checks, command_named, key, link, options_of, peer}
+use Rattle.avalanche_args.specs.Options.{receivers, relay_coded, seed_coded, text_of, word_of}
 use Rattle.avalanche_args.specs.declared.command.Command.{Command}
-use Rattle.avalanche_args.specs.declared.command.Command.TheVariants.{Seed, Fetch}
+use Rattle.avalanche_args.specs.declared.command.Command.TheVariants.{Seed, Fetch, Relay}
 use Rattle.avalanche_args.specs.declared.command.CommandName.{CommandName}
 use Rattle.avalanche_args.specs.declared.command.CommandName.TheVariants as name
 use Rattle.avalanche_args.specs.declared.option.NumberOption.{NumberOption}
@@ -63,10 +63,16 @@ command_by name.Seed number = Seed (record {
   checks = number checks;
   key = number key;
   peer = number peer;
-  coded = 0;
+  coded = number seed_coded;
   bare = number bare == 1;
 })
 command_by name.Fetch number = Fetch (record { receivers = number receivers })
+command_by name.Relay number = Relay (record {
+  receivers = number receivers;
+  key = number key;
+  link = number link;
+  coded = number relay_coded;
+})
 
 -- the command with the values that are given, or the class of the first that is wrong
 unfoldable pub judged_as : CommandName → List Row → Result Command WordClass

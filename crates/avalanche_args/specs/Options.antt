@@ -61,8 +61,17 @@ key = numbers Key 0 18446744073709551615 1
 abbrev pub peer : NumberOption
 peer = numbers Peer 0 63 1
 
+abbrev pub seed_coded : NumberOption
+seed_coded = numbers Coded 0 1024 0
+
+abbrev pub relay_coded : NumberOption
+relay_coded = numbers Coded 0 1024 64
+
 abbrev pub bare : NumberOption
 bare = numbers Bare 0 1 0
+
+abbrev pub link : NumberOption
+link = numbers LinkNumber 0 65535 1
 
 abbrev pub receivers : NumberOption
 receivers = numbers Receivers 1 8 2
@@ -71,12 +80,13 @@ receivers = numbers Receivers 1 8 2
 
 -- the commands that there are so far
 abbrev pub commands : List CommandName
-commands = name.Seed ∷ name.Fetch ∷ []
+commands = name.Seed ∷ name.Fetch ∷ name.Relay ∷ []
 
 -- how a command is written
 abbrev pub word_of : CommandName → List ℕ
 word_of name.Seed = codes "seed"
 word_of name.Fetch = codes "fetch"
+word_of name.Relay = codes "relay"
 
 -- the command that is written so
 abbrev pub command_named : List ℕ → Option CommandName
@@ -84,5 +94,6 @@ command_named word = find (λ command. bytes_eq word (word_of command)) commands
 
 -- the options of a command, in the order in which they are judged
 abbrev pub options_of : CommandName → List NumberOption
-options_of name.Seed = blocks ∷ block ∷ checks ∷ key ∷ peer ∷ bare ∷ []
+options_of name.Seed = blocks ∷ block ∷ checks ∷ key ∷ peer ∷ seed_coded ∷ bare ∷ []
 options_of name.Fetch = receivers ∷ []
+options_of name.Relay = key ∷ relay_coded ∷ link ∷ receivers ∷ []

@@ -1,7 +1,7 @@
 ghost use Rattle.std.specs.Prelude.{◌≡◌};
 ghost use Rattle.avalanche_args.specs.Options.{command_named, options_of, word_of};
 
-use crate::option::{FETCH_OPTIONS, NumberOption, SEED_OPTIONS};
+use crate::option::{FETCH_OPTIONS, NumberOption, RELAY_OPTIONS, SEED_OPTIONS};
 
 /// What `seed` is to do: the stream of a file that is cut into generations of `k` blocks of `block` bytes.
 #[derive(Clone, Copy, Debug, PartialEq, Eq)]
@@ -12,11 +12,11 @@ pub struct SeedWords {
     pub block: u16,
     /// The checks of a generation, T.
     pub checks: u8,
-    /// The number of the key.
+    /// The number of the ticket's key, and of that of the draws.
     pub key: u64,
     /// The peer that the ticket is for.
     pub peer: u16,
-    /// The combinations that are drawn of each generation: none so far.
+    /// The combinations that are drawn of each generation, C.
     pub coded: u32,
     /// Whether the blocks themselves are left out.
     pub bare: bool,
@@ -29,11 +29,25 @@ pub struct FetchWords {
     pub receivers: u32,
 }
 
+/// What `relay` is to do: receive the packets of a stream as `fetch` does, and draw combinations of them for a link.
+#[derive(Clone, Copy, Debug, PartialEq, Eq)]
+pub struct RelayWords {
+    /// The receivers that the packets are dealt to.
+    pub receivers: u32,
+    /// The number of the key that draws use.
+    pub key: u64,
+    /// The link that draws are for.
+    pub link: u32,
+    /// The combinations that are drawn of each generation, C.
+    pub coded: u32,
+}
+
 /// A command with the values of its options.
 #[derive(Clone, Copy, Debug, PartialEq, Eq)]
 pub enum Command {
     Seed(SeedWords),
     Fetch(FetchWords),
+    Relay(RelayWords),
 }
 
 /// Which command it is.
@@ -41,6 +55,7 @@ pub enum Command {
 pub(crate) enum CommandName {
     Seed,
     Fetch,
+    Relay,
 }
 
 impl CommandName {
@@ -52,6 +67,8 @@ impl CommandName {
             Some(CommandName::Seed)
         } else if word == "fetch" {
             Some(CommandName::Fetch)
+        } else if word == "relay" {
+            Some(CommandName::Relay)
         } else {
             None
         }
@@ -64,6 +81,7 @@ impl CommandName {
         match self {
             CommandName::Seed => "seed",
             CommandName::Fetch => "fetch",
+            CommandName::Relay => "relay",
         }
     }
 
@@ -74,6 +92,7 @@ impl CommandName {
         match self {
             CommandName::Seed => SEED_OPTIONS.as_slice(),
             CommandName::Fetch => FETCH_OPTIONS.as_slice(),
+            CommandName::Relay => RELAY_OPTIONS.as_slice(),
         }
     }
 }

@@ -6,8 +6,10 @@ ghost use Rattle.avalanche_args.specs.Steps.{IsJudged, IsNumberIn};
 ghost use Rattle.avalanche_args.specs.declared.command.CommandName.TheVariants as name;
 
 use crate::WordClass;
-use crate::command::{Command, CommandName, FetchWords, SeedWords};
-use crate::option::{BARE, BLOCK, BLOCKS, CHECKS, KEY, NumberOption, PEER, RECEIVERS};
+use crate::command::{Command, CommandName, FetchWords, RelayWords, SeedWords};
+use crate::option::{
+    BARE, BLOCK, BLOCKS, CHECKS, KEY, LINK, NumberOption, PEER, RECEIVERS, RELAY_CODED, SEED_CODED,
+};
 use clap::ArgMatches;
 
 /// The command with the values of its options, or the class of the first value that is wrong.
@@ -18,6 +20,7 @@ pub(crate) fn judged(command: CommandName, matches: &ArgMatches<'_>) -> Result<C
     match command {
         CommandName::Seed => seed(matches),
         CommandName::Fetch => fetch(matches),
+        CommandName::Relay => relay(matches),
     }
 }
 
@@ -30,6 +33,7 @@ fn seed(matches: &ArgMatches<'_>) -> Result<Command, WordClass>
     let checks = number(matches, CHECKS)?;
     let key = number(matches, KEY)?;
     let peer = number(matches, PEER)?;
+    let coded = number(matches, SEED_CODED)?;
     let bare = number(matches, BARE)?;
     Ok(Command::Seed(SeedWords {
         k: k as u16,
@@ -37,7 +41,7 @@ fn seed(matches: &ArgMatches<'_>) -> Result<Command, WordClass>
         checks: checks as u8,
         key,
         peer: peer as u16,
-        coded: 0,
+        coded: coded as u32,
         bare: bare == 1,
     }))
 }
@@ -49,6 +53,22 @@ fn fetch(matches: &ArgMatches<'_>) -> Result<Command, WordClass>
     let receivers = number(matches, RECEIVERS)?;
     Ok(Command::Fetch(FetchWords {
         receivers: receivers as u32,
+    }))
+}
+
+fn relay(matches: &ArgMatches<'_>) -> Result<Command, WordClass>
+    ensures value { result ≡ judged_as name.Relay (rows_of (found_of matches.now)) }
+    ensures in_range { IfOk result IsInRange }
+{
+    let key = number(matches, KEY)?;
+    let coded = number(matches, RELAY_CODED)?;
+    let link = number(matches, LINK)?;
+    let receivers = number(matches, RECEIVERS)?;
+    Ok(Command::Relay(RelayWords {
+        receivers: receivers as u32,
+        key,
+        link: link as u32,
+        coded: coded as u32,
     }))
 }
 

@@ -8,7 +8,7 @@ mod parsing;
 mod reading;
 mod usage;
 
-pub use command::{Command, FetchWords, SeedWords};
+pub use command::{Command, FetchWords, RelayWords, SeedWords};
 pub use option::OptionName;
 pub use reading::read_words;
 pub use usage::{ArgsError, WordClass};

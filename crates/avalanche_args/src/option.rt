@@ -131,12 +131,38 @@ pub(crate) const PEER: NumberOption = NumberOption {
     default: 1,
 };
 
+/// The combinations that `seed` draws.
+pub(crate) const SEED_CODED: NumberOption = NumberOption {
+    name: OptionName::Coded,
+    least: 0,
+    most: 1024,
+    even: false,
+    default: 0,
+};
+
+/// The combinations that `relay` draws.
+pub(crate) const RELAY_CODED: NumberOption = NumberOption {
+    name: OptionName::Coded,
+    least: 0,
+    most: 1024,
+    even: false,
+    default: 64,
+};
+
 pub(crate) const BARE: NumberOption = NumberOption {
     name: OptionName::Bare,
     least: 0,
     most: 1,
     even: false,
     default: 0,
+};
+
+pub(crate) const LINK: NumberOption = NumberOption {
+    name: OptionName::LinkNumber,
+    least: 0,
+    most: 65535,
+    even: false,
+    default: 1,
 };
 
 pub(crate) const RECEIVERS: NumberOption = NumberOption {
@@ -148,7 +174,12 @@ pub(crate) const RECEIVERS: NumberOption = NumberOption {
 };
 
 /// The options of `seed`, in the order in which they are judged.
-pub(crate) static SEED_OPTIONS: [NumberOption; 6] = [BLOCKS, BLOCK, CHECKS, KEY, PEER, BARE];
+pub(crate) static SEED_OPTIONS: [NumberOption; 7] = [
+    BLOCKS, BLOCK, CHECKS, KEY, PEER, SEED_CODED, BARE,
+];
 
 /// The options of `fetch`.
 pub(crate) static FETCH_OPTIONS: [NumberOption; 1] = [RECEIVERS];
+
+/// The options of `relay`, in the order in which they are judged.
+pub(crate) static RELAY_OPTIONS: [NumberOption; 4] = [KEY, RELAY_CODED, LINK, RECEIVERS];

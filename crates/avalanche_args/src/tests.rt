@@ -16,6 +16,13 @@ const SEED: SeedWords = SeedWords {
     bare: false,
 };
 
+const RELAY: RelayWords = RelayWords {
+    receivers: 2,
+    key: 1,
+    link: 1,
+    coded: 64,
+};
+
 fn words_of(alloc: Global, line: &str) -> Result<Words, Memory> {
     let mut words = Words::new(alloc);
     for word in line.split_whitespace() {
@@ -51,13 +58,22 @@ fn options_of_seed(rt: HostRuntime) -> Result<(), Fail> {
         ),
         ("seed --peer 0", SeedWords { peer: 0, ..SEED }),
         ("seed --peer 63", SeedWords { peer: 63, ..SEED }),
+        ("seed --coded 0", SEED),
+        (
+            "seed --coded 1024",
+            SeedWords {
+                coded: 1024,
+                ..SEED
+            },
+        ),
         ("seed --bare 0", SEED),
         ("seed --bare 001", SeedWords { bare: true, ..SEED }),
         (
-            "seed --bare=1 --key 7 --blocks 3",
+            "seed --bare=1 --key 7 --coded=5 --blocks 3",
             SeedWords {
                 k: 3,
                 key: 7,
+                coded: 5,
                 bare: true,
                 ..SEED
             },
@@ -90,13 +106,74 @@ fn options_of_fetch(rt: HostRuntime) -> Result<(), Fail> {
 }
 
 #[test]
+fn options_of_relay(rt: HostRuntime) -> Result<(), Fail> {
+    let cases = [
+        ("relay", RELAY),
+        ("relay --", RELAY),
+        ("relay --key 0", RelayWords { key: 0, ..RELAY }),
+        (
+            "relay --key=18446744073709551615",
+            RelayWords {
+                key: u64::MAX,
+                ..RELAY
+            },
+        ),
+        ("relay --coded 0", RelayWords { coded: 0, ..RELAY }),
+        ("relay --coded 64", RELAY),
+        (
+            "relay --coded=1024",
+            RelayWords {
+                coded: 1024,
+                ..RELAY
+            },
+        ),
+        ("relay --link 0", RelayWords { link: 0, ..RELAY }),
+        (
+            "relay --link 65535",
+            RelayWords {
+                link: 65535,
+                ..RELAY
+            },
+        ),
+        (
+            "relay --receivers 1",
+            RelayWords {
+                receivers: 1,
+                ..RELAY
+            },
+        ),
+        (
+            "relay --receivers 8",
+            RelayWords {
+                receivers: 8,
+                ..RELAY
+            },
+        ),
+        (
+            "relay --receivers 3 --link=007 --coded 10 --key 9",
+            RelayWords {
+                receivers: 3,
+                key: 9,
+                link: 7,
+                coded: 10,
+            },
+        ),
+    ];
+    for (line, expected) in cases {
+        let words = words_of(rt.alloc(), line)?;
+        assert_eq!(rt; read_words(&words), Ok(Command::Relay(expected)), "{line}");
+    }
+    Ok(())
+}
+
+#[test]
 fn words_that_ask_for_no_command(rt: HostRuntime) -> Result<(), Fail> {
     let cases = [
         ("", WordClass::NoCommand),
         ("bake", WordClass::UnknownCommand),
         ("--help", WordClass::UnknownCommand),
         ("--receivers 2 fetch", WordClass::UnknownCommand),
-        ("relay", WordClass::UnknownCommand),
+        ("relays", WordClass::UnknownCommand),
         ("swarm", WordClass::UnknownCommand),
         ("sample", WordClass::UnknownCommand),
         ("seed --help", WordClass::BadWords),
@@ -109,7 +186,17 @@ fn words_that_ask_for_no_command(rt: HostRuntime) -> Result<(), Fail> {
         ("fetch 2", WordClass::BadWords),
         ("fetch --blocks 2", WordClass::BadWords),
         ("seed --receivers 2", WordClass::BadWords),
-        ("seed --coded 0", WordClass::BadWords),
+        ("seed --link 1", WordClass::BadWords),
+        ("seed --coded 1 --coded 1", WordClass::BadWords),
+        ("fetch --coded 1", WordClass::BadWords),
+        ("fetch --link 1", WordClass::BadWords),
+        ("relay --blocks 1", WordClass::BadWords),
+        ("relay --peer 1", WordClass::BadWords),
+        ("relay --bare 1", WordClass::BadWords),
+        ("relay --help", WordClass::BadWords),
+        ("relay --link", WordClass::BadWords),
+        ("relay --link 1 --link 1", WordClass::BadWords),
+        ("relay --coded 1025 --nosuch 1", WordClass::BadWords),
         ("seed --blocks 0 --nosuch 1", WordClass::BadWords),
     ];
     for (line, class) in cases {
@@ -139,8 +226,21 @@ fn values_that_are_wrong(rt: HostRuntime) -> Result<(), Fail> {
         ("seed --checks 9", OptionName::Checks),
         ("seed --key 18446744073709551616", OptionName::Key),
         ("seed --peer 64", OptionName::Peer),
+        ("seed --coded 1025", OptionName::Coded),
         ("seed --bare 2", OptionName::Bare),
         ("seed --bare 2 --block 3", OptionName::Block),
+        ("seed --coded 1025 --peer 64", OptionName::Peer),
+        ("seed --bare 2 --coded 1025", OptionName::Coded),
+        ("relay --key 18446744073709551616", OptionName::Key),
+        ("relay --coded 1025", OptionName::Coded),
+        ("relay --coded=", OptionName::Coded),
+        ("relay --link 65536", OptionName::LinkNumber),
+        ("relay --link=-1", OptionName::LinkNumber),
+        ("relay --receivers 0", OptionName::Receivers),
+        ("relay --receivers 9", OptionName::Receivers),
+        ("relay --coded 1025 --key x", OptionName::Key),
+        ("relay --link 65536 --coded 1025", OptionName::Coded),
+        ("relay --receivers 0 --link 65536", OptionName::LinkNumber),
     ];
     for (line, option) in cases {
         let words = words_of(rt.alloc(), line)?;

@@ -1,5 +1,5 @@
 -- What is known of the closed bases of a stream: a legal trace, the ranks of its generations, and the shape of what is solved.
-use Rattle.std.proofs.Common.{◌≡◌, ℕ, ◌+◌, ◌<◌, ◌≤◌, List, [], length, get_or, refl, sym, ap, ◌∙◌, subst, arith}
+use Rattle.std.proofs.Common.{◌≡◌, ℕ, ◌+◌, ◌<◌, ◌≤◌, List, [], length, get_or, None, refl, sym, ap, ◌∙◌, subst, arith}
 use Rattle.std.specs.List.{All}
 use Rattle.linear_spec.specs.declared.equations.Equations.{Equations}
 use Rattle.linear_spec.specs.declared.packet.Packet.{Packet}
@@ -29,7 +29,7 @@ pub record AreReceived (equations : Equations) (receivers : ℕ) (packets : List
 
 -- ---- the trace
 
-legal_basis : (equations : Equations) (receivers generation : ℕ) (packets : List Packet) (basis : Closed) → IsReceivedBy equations receivers generation packets basis → IsLegalBasis equations receivers packets generation (trace_of generation basis)
+legal_basis : (equations : Equations) (receivers generation : ℕ) (packets : List Packet) (basis : Closed) → IsReceivedBy equations receivers generation packets basis → IsLegalBasis equations receivers None packets generation (trace_of generation basis)
 legal_basis equations receivers generation packets basis is = record {
   peer = refl;
   generation_is = refl;
@@ -39,18 +39,19 @@ legal_basis equations receivers generation packets basis is = record {
   calls = is.calls;
   listed = is.listed;
   offers = is.offers;
+  draws = tt;
   legal = is.legal;
 }
 
 pub legal_fetch : (receivers : ℕ) (contents : Contents) (bases : List Closed) (trace : Trace) → AreReceived (equations_of contents) receivers contents.packets bases → trace.bases.items ≡ traces_of 0 bases → trace.sends.items ≡ [] → IsLegalFetch receivers contents trace
 legal_fetch receivers contents bases trace are traces no_sends = record {
-  no_sends = no_sends;
+  sends = no_sends;
   count = ap (λ (l : List BasisTrace). length l) traces ∙ length-traces 0 bases ∙ are.count;
   bases = λ generation other low.
       let below : generation < length bases = subst (λ n. generation < n) (sym are.count) low in
       let counted : 0 + generation ≡ generation = omega arith in
       let here : get_or trace.bases.items generation other ≡ trace_of generation (get_or bases generation no_basis) = ap (λ (l : List BasisTrace). get_or l generation other) traces ∙ trace_at 0 bases generation other no_basis below ∙ ap (λ n. trace_of n (get_or bases generation no_basis)) counted in
-      subst (IsLegalBasis (equations_of contents) receivers contents.packets generation) (sym here)
+      subst (IsLegalBasis (equations_of contents) receivers None contents.packets generation) (sym here)
       (legal_basis (equations_of contents) receivers generation contents.packets (get_or bases generation no_basis) (are.each generation no_basis low));
 }
 
@@ -59,7 +60,7 @@ legal_fetch receivers contents bases trace are traces no_sends = record {
 pub ranks_are : RecordedLaw → InnovativeLaw → SpansLaw → RecordRankLaw → MemberLaw → ClosedLaw → OneSpanLaw → (contents : Contents) (receivers : ℕ) (bases : List Closed) → 1 ≤ receivers → All (Fits contents.manifest.shape.k (symbols_per_block contents.manifest.shape)) contents.packets → AreReceived (equations_of contents) receivers contents.packets bases → (generation : ℕ) → generation < generations_of contents.manifest.shape → HasPacketRank contents generation (length (get_or bases generation no_basis).records.items)
 ranks_are recorded innovative spans rank member closed one_span contents receivers bases some fit are generation low =
     let is = are.each generation no_basis low in
-    legal_rank recorded innovative spans rank member closed one_span (equations_of contents) receivers generation contents.packets (trace_of generation (get_or bases generation no_basis)) (omega arith) fit is.fit
+    legal_rank recorded innovative spans rank member closed one_span (equations_of contents) receivers None generation contents.packets (trace_of generation (get_or bases generation no_basis)) (omega arith) fit is.fit
     (legal_basis (equations_of contents) receivers generation contents.packets (get_or bases generation no_basis) is)
 
 -- ---- what is solved

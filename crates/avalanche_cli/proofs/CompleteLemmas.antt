@@ -8,7 +8,7 @@ use Rattle.src_check.specs.Tickets.{generation_blocks_of}
 use Rattle.packet_wire.specs.Stream.{Contents, IsStream}
 use Rattle.packet_wire.specs.declared.fault.WireFault.{WireFault}
 use Rattle.avalanche_args.specs.declared.command.Command.{Command}
-use Rattle.avalanche_args.specs.declared.command.Command.TheVariants.{Seed, Fetch}
+use Rattle.avalanche_args.specs.declared.command.Command.TheVariants.{Seed, Fetch, Relay}
 use Rattle.avalanche_args.specs.declared.command.SeedWords.{SeedWords}
 use Rattle.avalanche_args.specs.declared.usage.WordClass.{WordClass}
 use Rattle.avalanche_cli.specs.Fetch.{HasReadSound, IsFetchable, IsTooLong, IsUnfetchable, stream_limit}
@@ -16,12 +16,13 @@ use Rattle.avalanche_cli.specs.Files.{IsFirstIncomplete, IsOnlyFileOf, recorded_
 use Rattle.avalanche_cli.specs.Trace.{IsLegalFetch}
 use Rattle.avalanche_cli.specs.declared.trace.Trace.{Trace}
 use Rattle.avalanche_cli.specs.Packets.{AreTrueTo, HasFullRank}
-use Rattle.avalanche_cli.specs.Run.{IfFetch, IfSeed}
+use Rattle.avalanche_cli.specs.Run.{IfFetch, IfReadsStream, IfRelay, IfSeed}
 use Rattle.avalanche_cli.specs.RunSteps.{IsRun}
 use Rattle.avalanche_cli.specs.Seed.{IsSeedEnd, IsSeedFile, IsSeedable, contents_of_seed, seed_limit, shape_of_seed, stream_of_seed}
 use Rattle.avalanche_cli.specs.declared.outcome.Outcome.{Outcome}
 use Rattle.avalanche_cli.specs.declared.end.End.{End}
 use Rattle.avalanche_cli.specs.declared.end.End.TheVariants.{Done, Usage, ReadFault, WriteFault, TooLarge, BadStream, Incomplete, Mismatch, Memory}
+use Rattle.avalanche_cli.proofs.AskedLemmas as asked
 use Rattle.avalanche_cli.proofs.EndLemmas as ends
 use Rattle.avalanche_cli.proofs.EndLemmas.{FaultLaw, IncompleteLaw, NotFullLaw, SoundLaw}
 
@@ -72,12 +73,14 @@ module _ (new before now : Option (List ℕ)) (Unmoved Same Unread Unwritten Unh
   within_limit None (Ok (Seed words)) is = tt
   within_limit (Some bytes) (Ok (Seed words)) is = seeded_within words bytes before now Same Unread Unwritten Unheld outcome.end is.1
   within_limit old (Ok (Fetch words)) is = tt
+  within_limit old (Ok (Relay words)) is = tt
   within_limit old (Err class) is = tt
 
   pub beyond_limit : (old : Option (List ℕ)) (said : Result Command WordClass) → Ran old said → IfSeed said (λ words. IfSome old (λ bytes. seed_limit words < length bytes → ¬ Unread → (outcome.end ≡ TooLarge (seed_limit words)) ⊎ (outcome.end ≡ Memory)))
   beyond_limit None (Ok (Seed words)) is = tt
   beyond_limit (Some bytes) (Ok (Seed words)) is = seeded_beyond words bytes before now Same Unread Unwritten Unheld outcome.end is.1
   beyond_limit old (Ok (Fetch words)) is = tt
+  beyond_limit old (Ok (Relay words)) is = tt
   beyond_limit old (Err class) is = tt
 
   -- ---- fetch
@@ -87,25 +90,39 @@ module _ (new before now : Option (List ℕ)) (Unmoved Same Unread Unwritten Unh
     full_rank old (Ok (Seed words)) is = tt
     full_rank None (Ok (Fetch words)) is = tt
     full_rank (Some bytes) (Ok (Fetch words)) is = ends.full_rank one not_full sound fault_law words.receivers bytes before now outcome.trace Same Unread (HasReadSound (Some bytes) new) Unwritten Unheld outcome.end is.1
+    full_rank old (Ok (Relay words)) is = tt
     full_rank old (Err class) is = tt
 
     pub low_rank : (old : Option (List ℕ)) (said : Result Command WordClass) → Ran old said → IfFetch said (λ words. IfSome old (λ bytes. (contents : Contents) (generation rank : ℕ) → IsFetchable bytes contents → IsFirstIncomplete contents generation rank → ¬ Unread → (outcome.end ≡ Incomplete generation rank) ⊎ (outcome.end ≡ Memory)))
     low_rank old (Ok (Seed words)) is = tt
     low_rank None (Ok (Fetch words)) is = tt
     low_rank (Some bytes) (Ok (Fetch words)) is = ends.low_rank one not_full sound fault_law words.receivers bytes before now outcome.trace Same Unread (HasReadSound (Some bytes) new) Unwritten Unheld outcome.end is.1
+    low_rank old (Ok (Relay words)) is = tt
     low_rank old (Err class) is = tt
 
-    pub unfetchable : (old : Option (List ℕ)) (said : Result Command WordClass) → Ran old said → IfFetch said (λ words. IfSome old (λ bytes. (fault : WireFault) → IsUnfetchable bytes fault → ¬ Unread → (outcome.end ≡ BadStream fault) ⊎ (outcome.end ≡ Memory)))
+    pub unfetchable : (old : Option (List ℕ)) (said : Result Command WordClass) → Ran old said → IfReadsStream said (IfSome old (λ bytes. (fault : WireFault) → IsUnfetchable bytes fault → ¬ Unread → (outcome.end ≡ BadStream fault) ⊎ (outcome.end ≡ Memory)))
     unfetchable old (Ok (Seed words)) is = tt
     unfetchable None (Ok (Fetch words)) is = tt
     unfetchable (Some bytes) (Ok (Fetch words)) is = ends.unfetchable one not_full sound fault_law words.receivers bytes before now outcome.trace Same Unread (HasReadSound (Some bytes) new) Unwritten Unheld outcome.end is.1
+    unfetchable None (Ok (Relay words)) is = tt
+    unfetchable (Some bytes) (Ok (Relay words)) is = asked.unfetchable sound fault_law words bytes before now outcome.trace Same Unread (HasReadSound (Some bytes) new) Unwritten Unheld outcome.end is.1
     unfetchable old (Err class) is = tt
 
-    pub too_long : (old : Option (List ℕ)) (said : Result Command WordClass) → Ran old said → IfFetch said (λ words. IfSome old (λ bytes. IsTooLong bytes → ¬ Unread → (outcome.end ≡ TooLarge stream_limit) ⊎ (outcome.end ≡ Memory)))
+    pub too_long : (old : Option (List ℕ)) (said : Result Command WordClass) → Ran old said → IfReadsStream said (IfSome old (λ bytes. IsTooLong bytes → ¬ Unread → (outcome.end ≡ TooLarge stream_limit) ⊎ (outcome.end ≡ Memory)))
     too_long old (Ok (Seed words)) is = tt
     too_long None (Ok (Fetch words)) is = tt
     too_long (Some bytes) (Ok (Fetch words)) is = ends.too_long one not_full sound fault_law words.receivers bytes before now outcome.trace Same Unread (HasReadSound (Some bytes) new) Unwritten Unheld outcome.end is.1
+    too_long None (Ok (Relay words)) is = tt
+    too_long (Some bytes) (Ok (Relay words)) is = asked.too_long sound fault_law words bytes before now outcome.trace Same Unread (HasReadSound (Some bytes) new) Unwritten Unheld outcome.end is.1
     too_long old (Err class) is = tt
+
+    -- a stream that is to be relayed
+    pub relayed : (old : Option (List ℕ)) (said : Result Command WordClass) → Ran old said → IfRelay said (λ words. IfSome old (λ bytes. (contents : Contents) → IsFetchable bytes contents → ¬ Unread → ¬ Unwritten → (outcome.end ≡ Done) ⊎ (outcome.end ≡ Memory)))
+    relayed old (Ok (Seed words)) is = tt
+    relayed old (Ok (Fetch words)) is = tt
+    relayed None (Ok (Relay words)) is = tt
+    relayed (Some bytes) (Ok (Relay words)) is = asked.relayed sound fault_law words bytes before now outcome.trace Same Unread (HasReadSound (Some bytes) new) Unwritten Unheld outcome.end is.1
+    relayed old (Err class) is = tt
 
     -- where the file of a legal trace is that of the blocks that the packets are true to
     abbrev pub SourceLaw : Type 0
@@ -116,21 +133,29 @@ module _ (new before now : Option (List ℕ)) (Unmoved Same Unread Unwritten Unh
     true_packets law None (Ok (Fetch words)) is = tt
     true_packets law (Some bytes) (Ok (Fetch words)) is =
         ends.true_packets one not_full sound fault_law words.receivers bytes before now outcome.trace Same Unread (HasReadSound (Some bytes) new) Unwritten Unheld (λ contents file blocks legal only true_to. law words.receivers contents outcome.trace blocks file legal only true_to) outcome.end is.1
+    true_packets law old (Ok (Relay words)) is = tt
     true_packets law old (Err class) is = tt
 
     -- what is known of the streams that are seeded
     pub record SeededLaws : Type 0 where
       pub stream : (words : SeedWords) (file : List ℕ) → IsSeedable words file → IsStream (stream_of_seed words file) (contents_of_seed words file)
-      pub within : (words : SeedWords) (file : List ℕ) → IsSeedable words file → length (stream_of_seed words file) ≤ 67108864
+      pub within : (words : SeedWords) (file : List ℕ) → IsSeedable words file → words.coded ≡ 0 → length (stream_of_seed words file) ≤ 67108864
       pub rank : (words : SeedWords) (file : List ℕ) → IsSeedable words file → words.bare ≡ false → HasFullRank (contents_of_seed words file)
-      pub truth : (words : SeedWords) (file : List ℕ) → IsSeedable words file → words.bare ≡ false → AreTrueTo (contents_of_seed words file) (generation_blocks_of (shape_of_seed words file) file)
+      pub truth : (words : SeedWords) (file : List ℕ) → IsSeedable words file → AreTrueTo (contents_of_seed words file) (generation_blocks_of (shape_of_seed words file) file)
       pub file : (words : SeedWords) (file : List ℕ) → IsSeedable words file → source_file (shape_of_seed words file) (generation_blocks_of (shape_of_seed words file) file) ≡ file
 
-    pub seeded_stream : SourceLaw → SeededLaws → (old : Option (List ℕ)) (said : Result Command WordClass) → Ran old said → IfFetch said (λ words. IfSome old (λ bytes. (seed : SeedWords) (file : List ℕ) → IsSeedable seed file → seed.bare ≡ false → bytes ≡ stream_of_seed seed file → ¬ Unread → ¬ Unwritten → ((outcome.end ≡ Done) × Appends before now file) ⊎ (outcome.end ≡ Memory)))
+    -- a stream that was seeded is within the limit: it has no draws, or it is said to be
+    seeded_within_limit : SeededLaws → (seed : SeedWords) (file bytes : List ℕ) → IsSeedable seed file → (seed.coded ≡ 0) ⊎ (length bytes ≤ stream_limit) → bytes ≡ stream_of_seed seed file → length (stream_of_seed seed file) ≤ stream_limit
+    seeded_within_limit laws seed file bytes seedable (inl none) bytes_are = laws.within seed file seedable none
+    seeded_within_limit laws seed file bytes seedable (inr within) bytes_are = subst (λ (b : List ℕ). length b ≤ stream_limit) bytes_are within
+
+    pub seeded_stream : SourceLaw → SeededLaws → (old : Option (List ℕ)) (said : Result Command WordClass) → Ran old said → IfFetch said (λ words. IfSome old (λ bytes. (seed : SeedWords) (file : List ℕ) → IsSeedable seed file → seed.bare ≡ false → (seed.coded ≡ 0) ⊎ (length bytes ≤ stream_limit) → bytes ≡ stream_of_seed seed file → ¬ Unread → ¬ Unwritten → ((outcome.end ≡ Done) × Appends before now file) ⊎ (outcome.end ≡ Memory)))
     seeded_stream source laws old (Ok (Seed words)) is = tt
     seeded_stream source laws None (Ok (Fetch words)) is = tt
-    seeded_stream source laws (Some bytes) (Ok (Fetch words)) is = λ seed file seedable whole bytes_are read written.
+    seeded_stream source laws (Some bytes) (Ok (Fetch words)) is = λ seed file seedable whole small bytes_are read written.
         true_packets source (Some bytes) (Ok (Fetch words)) is (contents_of_seed seed file) (generation_blocks_of (shape_of_seed seed file) file) file
-        (subst (λ (b : List ℕ). IsFetchable b (contents_of_seed seed file)) (sym bytes_are) (record { within = laws.within seed file seedable; stream = laws.stream seed file seedable }))
-        (laws.rank seed file seedable whole) (laws.truth seed file seedable whole) (sym (laws.file seed file seedable)) refl read written
+        (subst (λ (b : List ℕ). IsFetchable b (contents_of_seed seed file)) (sym bytes_are)
+        (record { within = seeded_within_limit laws seed file bytes seedable small bytes_are; stream = laws.stream seed file seedable }))
+        (laws.rank seed file seedable whole) (laws.truth seed file seedable) (sym (laws.file seed file seedable)) refl read written
+    seeded_stream source laws old (Ok (Relay words)) is = tt
     seeded_stream source laws old (Err class) is = tt

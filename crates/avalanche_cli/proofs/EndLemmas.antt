@@ -40,25 +40,25 @@ FaultLaw = (bytes : List ℕ) (fault other : WireFault) → IsFirstFault bytes f
 pub same_contents : (bytes : List ℕ) (contents other : Contents) → Holds (Some bytes) contents → IsFetchable bytes other → other ≡ contents
 same_contents bytes contents other holds fetchable = holds.only other (subst (λ (b : List ℕ). IsFetchable b other) holds.told fetchable)
 
-fetchable_of : (bytes : List ℕ) (contents : Contents) → Holds (Some bytes) contents → IsFetchable bytes contents
+pub fetchable_of : (bytes : List ℕ) (contents : Contents) → Holds (Some bytes) contents → IsFetchable bytes contents
 fetchable_of bytes contents holds = subst (λ (b : List ℕ). IsFetchable b contents) (sym holds.told) holds.fetchable
 
 -- a stream is not too long
-not_both : (bytes : List ℕ) (contents : Contents) → IsFetchable bytes contents → IsTooLong bytes → ⊥
+pub not_both : (bytes : List ℕ) (contents : Contents) → IsFetchable bytes contents → IsTooLong bytes → ⊥
 not_both bytes contents fetchable long =
     let within : length bytes ≤ stream_limit = fetchable.within in
     let longer : stream_limit < length bytes = long.longer in
     omega arith
 
 -- and bytes with a fault within the limit are not too long
-not_too_long : (bytes : List ℕ) (fault : WireFault) → IsUnfetchable bytes fault → IsTooLong bytes → ⊥
+pub not_too_long : (bytes : List ℕ) (fault : WireFault) → IsUnfetchable bytes fault → IsTooLong bytes → ⊥
 not_too_long bytes fault unfetchable long =
     let within : length bytes ≤ stream_limit = unfetchable.whole (long.sound fault unfetchable.first) in
     let longer : stream_limit < length bytes = long.longer in
     omega arith
 
 module _ (sound : SoundLaw) where
-  not_sound : (bytes : List ℕ) (contents : Contents) (fault : WireFault) → IsFetchable bytes contents → IsUnfetchable bytes fault → ⊥
+  pub not_sound : (bytes : List ℕ) (contents : Contents) (fault : WireFault) → IsFetchable bytes contents → IsUnfetchable bytes fault → ⊥
   not_sound bytes contents fault fetchable unfetchable =
       sound bytes contents fault fetchable.stream (subst (λ (b : List ℕ). IsFirstFault b fault) (take_all stream_limit bytes fetchable.within) unfetchable.first)
 

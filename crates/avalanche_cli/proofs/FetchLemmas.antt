@@ -4,10 +4,10 @@ use Rattle.std.specs.Prelude.{Option, Result, Ok, Err}
 use Rattle.sha2.specs.Sha256.{sha256}
 use Rattle.linear_spec.specs.List.{ListValue}
 use Rattle.packet_wire.specs.Stream.{Contents}
-use Rattle.avalanche_cli.specs.Delivery.{IsDelivered}
+use Rattle.avalanche_cli.specs.Delivery.{IsAfterDelivery, IsDelivered}
 use Rattle.avalanche_cli.specs.EmptyTrace.{IsEmptyTrace}
 use Rattle.avalanche_cli.specs.Fetch.{HasFile, Holds, IsTraceOf}
-use Rattle.avalanche_cli.specs.FetchSteps.{IsAfterDelivery, IsAfterNoFile, IsEnd, IsFinished, IsReceptionOf, IsUnread, end_of_reading}
+use Rattle.avalanche_cli.specs.FetchSteps.{IsAfterNoFile, IsEnd, IsFinished, IsReceptionOf, IsUnread, end_of_reading}
 use Rattle.avalanche_cli.specs.Files.{IsOnlyFileOf, recorded_packets}
 use Rattle.avalanche_cli.specs.Packets.{HasFullRank}
 use Rattle.avalanche_cli.specs.Reception.{IsJudged}

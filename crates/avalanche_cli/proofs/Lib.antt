@@ -1,3 +1,4 @@
+pub mod AskedLemmas
 pub mod BasesLemmas
 pub mod CompleteLemmas
 pub mod DeliveryLemmas
@@ -6,6 +7,7 @@ pub mod FetchLemmas
 pub mod FilterLemmas
 pub mod FrameLemmas
 pub mod HeadlineLemmas
+pub mod HistoryLemmas
 pub mod JudgedLemmas
 pub mod LineLemmas
 pub mod PassingLemmas
@@ -13,10 +15,14 @@ pub mod PieceLemmas
 pub mod RankLemmas
 pub mod ReadingLemmas
 pub mod ReceptionLemmas
+pub mod RelayEndLemmas
+pub mod RelayLaws
+pub mod RelayLemmas
 pub mod RunLemmas
 pub mod SeedLemmas
 pub mod SeededLemmas
 pub mod SeededStream
+pub mod SendLemmas
 pub mod SystematicLemmas
 pub mod TraceLemmas
 pub mod TrueLemmas

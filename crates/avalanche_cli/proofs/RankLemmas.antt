@@ -1,6 +1,6 @@
 -- The rank of the packets of a generation that pass is the number of its basis's records, whatever the schedule was.
 use Rattle.std.proofs.Common.{◌≡◌, ℕ, ◌+◌, ◌<◌, ◌%◌, Bool, true, false, cond, List, [], ◌∷◌, ◌++◌, length, Some, refl, sym, subst}
-use Rattle.std.specs.Prelude.{◌&&◌}
+use Rattle.std.specs.Prelude.{Option, ◌&&◌}
 use Rattle.std.specs.List.{All, AllByRecursion, filter}
 use Rattle.std.proofs.Math.Nat.{mod-lt}
 use Rattle.std.proofs.lemmas.Bool.{eq-eqb}
@@ -21,12 +21,13 @@ use Rattle.basis_core.specs.Legal.{IsLegalHistory, IsSpanned}
 use Rattle.basis_core.specs.Run.{AreInnovative}
 use Rattle.receive_pass.specs.declared.worker.TaggedPacket.{TaggedPacket}
 use Rattle.receive_pass.specs.Workers.{AreOffersOf}
+use Rattle.shared_reception.specs.declared.sends.Sending.{Sending}
 use Rattle.shared_reception.specs.Dealing.{dealt_to, given_below, tagged_from}
-use Rattle.avalanche_cli.specs.Packets.{passes, passing_in}
-use Rattle.avalanche_cli.specs.Trace.{IsLegalBasis}
+use Rattle.avalanche_cli.specs.Packets.{passing_in}
+use Rattle.avalanche_cli.specs.Trace.{IsLegalBasis, caller_count}
 use Rattle.avalanche_cli.proofs.PassingLemmas.{is_passing, passing_of}
-use Rattle.avalanche_cli.proofs.TraceLemmas.{given_here}
-use Rattle.avalanche_cli.proofs.TrueLemmas.{InnovativeLaw, RecordedLaw, is_taken, is_within, kept_head, kept_more, kept_tail, of_records}
+use Rattle.avalanche_cli.proofs.TraceLemmas.{given_here, is_caller}
+use Rattle.avalanche_cli.proofs.TrueLemmas.{InnovativeLaw, RecordedLaw, and_left, is_taken, is_within, kept_head, kept_more, kept_tail, of_records}
 
 -- ---- the laws that are used
 
@@ -72,10 +73,6 @@ twice_tail : (P : TaggedPacket → Type 0) (test : TaggedPacket → Bool) (c : B
 twice_tail P test true x xs all = kept_tail P (test x) x (filter test xs) all
 twice_tail P test false x xs all = all
 
-and_left : (a b : Bool) → a && b ≡ true → a ≡ true
-and_left true b is = refl
-and_left false b is = absurd cc
-
 and_right : (a b : Bool) → a && b ≡ true → b ≡ true
 and_right true b is = is
 and_right false b is = absurd cc
@@ -109,12 +106,12 @@ spanned_offers equations records (first ∷ dealt) (KeptOffer tag packet reply �
 -- ---- the rank
 
 module _ (recorded : RecordedLaw) (innovative : InnovativeLaw) (spans : SpansLaw) (rank : RecordRankLaw) (member : MemberLaw) (closed : ClosedLaw) (one_span : OneSpanLaw) where
-  pub legal_rank : (equations : Equations) (receivers generation : ℕ) (packets : List Packet) (basis : BasisTrace) → 0 < receivers → All (Fits equations.k equations.s) packets → All (Fits equations.k equations.s) (packets_of basis.records.items) → IsLegalBasis equations receivers packets generation basis → HasRank equations.k (coefficients_of (passing_in equations generation packets)) (length basis.records.items)
-  legal_rank equations receivers generation packets basis some fit records_fit is =
+  pub legal_rank : (equations : Equations) (receivers : ℕ) (sending : Option Sending) (generation : ℕ) (packets : List Packet) (basis : BasisTrace) → 0 < receivers → All (Fits equations.k equations.s) packets → All (Fits equations.k equations.s) (packets_of basis.records.items) → IsLegalBasis equations receivers sending packets generation basis → HasRank equations.k (coefficients_of (passing_in equations generation packets)) (length basis.records.items)
+  legal_rank equations receivers sending generation packets basis some fit records_fit is =
       let k = equations.k in
       let s = equations.s in
       let records = basis.records.items in
-      let given = given_below receivers is.kept in
+      let given = given_below (caller_count receivers sending) is.kept in
       let passing = passing_in equations generation packets in
       let own = coefficients_of passing in
       let its = coefficients_of (packets_of records) in
@@ -122,11 +119,11 @@ module _ (recorded : RecordedLaw) (innovative : InnovativeLaw) (spans : SpansLaw
       let own_vectors : All (IsVector k) own = vectors_are k s passing passing_fit in
       let its_vectors : All (IsVector k) its = vectors_are k s (packets_of records) records_fit in
       let inside : All (λ (p : Packet). InSpan k own p.coeffs) (packets_of records) =
-      of_records recorded innovative (λ p. InSpan k own p.coeffs) equations receivers packets generation basis is (All-from_recursion (λ (p : Packet). InSpan k own p.coeffs) passing (members_after member k [] passing own_vectors)) in
+      of_records recorded innovative (λ p. InSpan k own p.coeffs) equations receivers sending packets generation basis is (All-from_recursion (λ (p : Packet). InSpan k own p.coeffs) passing (members_after member k [] passing own_vectors)) in
       let spanned : AllByRecursion (λ (p : Packet). Passes equations p × SpannedBy equations records p) passing =
       all_dealt (SpannedBy equations records) equations receivers generation some packets 0 (λ receiver low.
       spanned_offers equations records (dealt_to receivers receiver generation packets) (is.kept receiver) (is.offers receiver low)
-      (recursion_from_All (IsSpanned equations records) (is.kept receiver) (spans equations given records receiver (is.kept receiver) is.legal (given_here receivers receiver is.kept low) records_fit))) in
+      (recursion_from_All (IsSpanned equations records) (is.kept receiver) (spans equations given records receiver (is.kept receiver) is.legal (given_here (caller_count receivers sending) receiver is.kept (is_caller receivers sending receiver low)) records_fit))) in
       let covered : All (λ (p : Packet). InSpan k its p.coeffs) passing = λ place other low.
       let both = All-from_recursion (λ (p : Packet). Passes equations p × SpannedBy equations records p) passing spanned place other low in
       both.1 both.0 (passing_fit place other low) in

@@ -3,17 +3,21 @@
 -- said: what the words say. is: how the run ended.
 use Rattle.std.proofs.Common.{◌≡◌, ◌⊎◌, inl, inr, ℕ, List, sym, subst, ap, ◌∙◌}
 use Rattle.std.specs.Prelude.{Option, Result, Ok, Err, IfSome, length, ◌<◌}
-use Rattle.std.specs.Io.KnownBytes.{Keeps}
+use Rattle.std.specs.Io.KnownBytes.{Appends, Keeps}
+use Rattle.swarm_io.specs.Moved.{AppendsPrefix}
 use Rattle.packet_wire.specs.declared.fault.WireFault.{WireFault}
 use Rattle.avalanche_args.specs.declared.command.Command.{Command}
-use Rattle.avalanche_args.specs.declared.command.Command.TheVariants.{Seed, Fetch}
+use Rattle.avalanche_args.specs.declared.command.Command.TheVariants.{Seed, Fetch, Relay}
 use Rattle.avalanche_args.specs.declared.command.FetchWords.{FetchWords}
+use Rattle.avalanche_args.specs.declared.command.RelayWords.{RelayWords}
 use Rattle.avalanche_args.specs.declared.command.SeedWords.{SeedWords}
 use Rattle.avalanche_args.specs.declared.usage.WordClass.{WordClass}
+use Rattle.avalanche_cli.specs.Delivery.{AppendsSome}
 use Rattle.avalanche_cli.specs.EmptyTrace.{IsEmptyTrace}
 use Rattle.avalanche_cli.specs.Fetch.{Gives, GivesPrefix, GivesSome, HasOtherDigest, HasReadSound, IsTooLong, IsUnfetchable, LacksRank, stream_limit}
 use Rattle.avalanche_cli.specs.FetchSteps.{IsEnd}
-use Rattle.avalanche_cli.specs.Run.{IfFetch, IfSeed, IsFetchThat, IsKept, IsKeptFetch, IsRefusal}
+use Rattle.avalanche_cli.specs.Relay.{IsRelayEnd, Relays}
+use Rattle.avalanche_cli.specs.Run.{IfFetch, IfReadsStream, IfRelay, IfSeed, IsFetchThat, IsKept, IsRefusal, ReadsStream}
 use Rattle.avalanche_cli.specs.RunSteps.{IsRefused, IsRun}
 use Rattle.avalanche_cli.specs.Seed.{GivesStream, GivesStreamPrefix, IsSeedEnd, seed_limit}
 use Rattle.avalanche_cli.specs.declared.outcome.Outcome.{Outcome}
@@ -30,12 +34,18 @@ module _ (old new before now : Option (List ℕ)) (Unmoved Same Unread Unwritten
   abbrev Fetched : FetchWords → End → Type 0
   Fetched words end = IsEnd words.receivers old outcome.trace before now Same Unread (HasReadSound old new) Unwritten Unheld end
 
+  abbrev Relayed : RelayWords → End → Type 0
+  Relayed words end = IsRelayEnd words old outcome.trace before now Same Unread (HasReadSound old new) Unwritten Unheld end
+
   -- the end that it is
   seeded : (words : SeedWords) (end : End) → Ran (Ok (Seed words)) → outcome.end ≡ end → Seeded words end
   seeded words end is at = subst (λ (e : End). Seeded words e) at is.1
 
   fetched : (words : FetchWords) (end : End) → Ran (Ok (Fetch words)) → outcome.end ≡ end → Fetched words end
   fetched words end is at = subst (λ (e : End). Fetched words e) at is.1
+
+  relayed : (words : RelayWords) (end : End) → Ran (Ok (Relay words)) → outcome.end ≡ end → Relayed words end
+  relayed words end is at = subst (λ (e : End). Relayed words e) at is.1
 
   -- words that say no command end in two ways
   neither : (class : WordClass) (end : End) → (outcome.end ≡ Usage class) ⊎ (outcome.end ≡ Memory) → outcome.end ≡ end → (Usage class ≡ end → ⊥) → (Memory ≡ end → ⊥) → ⊥
@@ -51,6 +61,7 @@ module _ (old new before now : Option (List ℕ)) (Unmoved Same Unread Unwritten
   pub usage : (said : Result Command WordClass) (class : WordClass) → Ran said → outcome.end ≡ Usage class → said ≡ Err class
   usage (Ok (Seed words)) class is at = absurd (seeded words (Usage class) is at)
   usage (Ok (Fetch words)) class is at = absurd (fetched words (Usage class) is at)
+  usage (Ok (Relay words)) class is at = absurd (relayed words (Usage class) is at)
   usage (Err given) class is at = ap Err (usage_of class given is.end at)
 
   pub no_command : (said : Result Command WordClass) (class : WordClass) → Ran said → said ≡ Err class → ((outcome.end ≡ Usage class) ⊎ (outcome.end ≡ Memory)) × Unmoved × Same
@@ -59,6 +70,7 @@ module _ (old new before now : Option (List ℕ)) (Unmoved Same Unread Unwritten
   pub kept : (said : Result Command WordClass) → Ran said → IsKept said outcome.end old outcome.trace
   kept (Ok (Seed words)) is = is.0
   kept (Ok (Fetch words)) is = is.0
+  kept (Ok (Relay words)) is = is.0
   kept (Err class) is = is.trace
 
   -- ---- Done
@@ -66,28 +78,41 @@ module _ (old new before now : Option (List ℕ)) (Unmoved Same Unread Unwritten
   pub done_of_seed : (said : Result Command WordClass) → Ran said → outcome.end ≡ Done → IfSeed said (λ words. GivesStream words old before now)
   done_of_seed (Ok (Seed words)) is at = seeded words Done is at
   done_of_seed (Ok (Fetch words)) is at = tt
+  done_of_seed (Ok (Relay words)) is at = tt
   done_of_seed (Err class) is at = tt
 
   pub done_of_fetch : (said : Result Command WordClass) → Ran said → outcome.end ≡ Done → IfFetch said (λ words. Gives words.receivers old outcome.trace before now)
   done_of_fetch (Ok (Seed words)) is at = tt
   done_of_fetch (Ok (Fetch words)) is at = fetched words Done is at
+  done_of_fetch (Ok (Relay words)) is at = tt
   done_of_fetch (Err class) is at = tt
+
+  pub done_of_relay : (said : Result Command WordClass) → Ran said → outcome.end ≡ Done → IfRelay said (λ words. Relays words old outcome.trace (Appends before now))
+  done_of_relay (Ok (Seed words)) is at = tt
+  done_of_relay (Ok (Fetch words)) is at = tt
+  done_of_relay (Ok (Relay words)) is at = relayed words Done is at
+  done_of_relay (Err class) is at = tt
 
   -- ---- ends that only a fetch has
 
   pub mismatch : (said : Result Command WordClass) (found : List ℕ) → Ran said → outcome.end ≡ Mismatch found → IsFetchThat said (λ words. HasOtherDigest words.receivers old outcome.trace found)
   mismatch (Ok (Seed words)) found is at = absurd (seeded words (Mismatch found) is at)
   mismatch (Ok (Fetch words)) found is at = (fetched words (Mismatch found) is at).1
+  mismatch (Ok (Relay words)) found is at = absurd (relayed words (Mismatch found) is at)
   mismatch (Err class) found is at = absurd (neither class (Mismatch found) is.end at (λ e. absurd cc) (λ e. absurd cc))
 
   pub incomplete : (said : Result Command WordClass) (generation rank : ℕ) → Ran said → outcome.end ≡ Incomplete generation rank → IsFetchThat said (λ words. LacksRank old generation rank)
   incomplete (Ok (Seed words)) generation rank is at = absurd (seeded words (Incomplete generation rank) is at)
   incomplete (Ok (Fetch words)) generation rank is at = (fetched words (Incomplete generation rank) is at).1
+  incomplete (Ok (Relay words)) generation rank is at = absurd (relayed words (Incomplete generation rank) is at)
   incomplete (Err class) generation rank is at = absurd (neither class (Incomplete generation rank) is.end at (λ e. absurd cc) (λ e. absurd cc))
 
-  pub bad_stream : (said : Result Command WordClass) (fault : WireFault) → Ran said → outcome.end ≡ BadStream fault → IsFetchThat said (λ words. IfSome old (λ bytes. IsUnfetchable bytes fault))
+  -- ---- bytes that are no stream
+
+  pub bad_stream : (said : Result Command WordClass) (fault : WireFault) → Ran said → outcome.end ≡ BadStream fault → ReadsStream said (IfSome old (λ bytes. IsUnfetchable bytes fault))
   bad_stream (Ok (Seed words)) fault is at = absurd (seeded words (BadStream fault) is at)
   bad_stream (Ok (Fetch words)) fault is at = (fetched words (BadStream fault) is at).1
+  bad_stream (Ok (Relay words)) fault is at = (relayed words (BadStream fault) is at).1
   bad_stream (Err class) fault is at = absurd (neither class (BadStream fault) is.end at (λ e. absurd cc) (λ e. absurd cc))
 
   -- ---- inputs that are too large
@@ -95,28 +120,33 @@ module _ (old new before now : Option (List ℕ)) (Unmoved Same Unread Unwritten
   pub too_large_of_seed : (said : Result Command WordClass) (limit : ℕ) → Ran said → outcome.end ≡ TooLarge limit → IfSeed said (λ words. (limit ≡ seed_limit words) × IfSome old (λ bytes. seed_limit words < length bytes))
   too_large_of_seed (Ok (Seed words)) limit is at = (seeded words (TooLarge limit) is at).1
   too_large_of_seed (Ok (Fetch words)) limit is at = tt
+  too_large_of_seed (Ok (Relay words)) limit is at = tt
   too_large_of_seed (Err class) limit is at = tt
 
-  pub too_large_of_fetch : (said : Result Command WordClass) (limit : ℕ) → Ran said → outcome.end ≡ TooLarge limit → IfFetch said (λ words. (limit ≡ stream_limit) × IfSome old IsTooLong)
-  too_large_of_fetch (Ok (Seed words)) limit is at = tt
-  too_large_of_fetch (Ok (Fetch words)) limit is at = (fetched words (TooLarge limit) is at).1
-  too_large_of_fetch (Err class) limit is at = tt
+  pub too_large_of_stream : (said : Result Command WordClass) (limit : ℕ) → Ran said → outcome.end ≡ TooLarge limit → IfReadsStream said ((limit ≡ stream_limit) × IfSome old IsTooLong)
+  too_large_of_stream (Ok (Seed words)) limit is at = tt
+  too_large_of_stream (Ok (Fetch words)) limit is at = (fetched words (TooLarge limit) is at).1
+  too_large_of_stream (Ok (Relay words)) limit is at = (relayed words (TooLarge limit) is at).1
+  too_large_of_stream (Err class) limit is at = tt
 
   -- ---- faults
 
   pub read_fault : (said : Result Command WordClass) → Ran said → outcome.end ≡ ReadFault → Unread
   read_fault (Ok (Seed words)) is at = (seeded words ReadFault is at).1
   read_fault (Ok (Fetch words)) is at = (fetched words ReadFault is at).1.0
+  read_fault (Ok (Relay words)) is at = (relayed words ReadFault is at).1.0
   read_fault (Err class) is at = absurd (neither class ReadFault is.end at (λ e. absurd cc) (λ e. absurd cc))
 
-  pub read_fault_of_fetch : (said : Result Command WordClass) → Ran said → outcome.end ≡ ReadFault → IfFetch said (λ words. HasReadSound old new)
-  read_fault_of_fetch (Ok (Seed words)) is at = tt
-  read_fault_of_fetch (Ok (Fetch words)) is at = (fetched words ReadFault is at).1.1
-  read_fault_of_fetch (Err class) is at = tt
+  pub read_fault_of_stream : (said : Result Command WordClass) → Ran said → outcome.end ≡ ReadFault → IfReadsStream said (HasReadSound old new)
+  read_fault_of_stream (Ok (Seed words)) is at = tt
+  read_fault_of_stream (Ok (Fetch words)) is at = (fetched words ReadFault is at).1.1
+  read_fault_of_stream (Ok (Relay words)) is at = (relayed words ReadFault is at).1.1
+  read_fault_of_stream (Err class) is at = tt
 
   pub write_fault : (said : Result Command WordClass) → Ran said → outcome.end ≡ WriteFault → Unwritten
   write_fault (Ok (Seed words)) is at = (seeded words WriteFault is at).1
   write_fault (Ok (Fetch words)) is at = (fetched words WriteFault is at).1
+  write_fault (Ok (Relay words)) is at = (relayed words WriteFault is at).1
   write_fault (Err class) is at = absurd (neither class WriteFault is.end at (λ e. absurd cc) (λ e. absurd cc))
 
   -- ---- what is left
@@ -143,45 +173,55 @@ module _ (old new before now : Option (List ℕ)) (Unmoved Same Unread Unwritten
   refused_fetch words (Mismatch found) is early = is.0
   refused_fetch words Memory is early = absurd early
 
+  refused_relay : (words : RelayWords) (end : End) → Relayed words end → IsRefusal end → Same
+  refused_relay words Done is early = absurd early
+  refused_relay words (Usage class) is early = absurd is
+  refused_relay words ReadFault is early = is.0
+  refused_relay words WriteFault is early = absurd early
+  refused_relay words (TooLarge limit) is early = is.0
+  refused_relay words (BadStream fault) is early = is.0
+  refused_relay words (Incomplete generation rank) is early = absurd is
+  refused_relay words (Mismatch found) is early = absurd is
+  refused_relay words Memory is early = absurd early
+
   pub refusal_writes_nothing : (said : Result Command WordClass) → Ran said → IsRefusal outcome.end → Same
   refusal_writes_nothing (Ok (Seed words)) is early = refused_seed words outcome.end is.1 early
   refusal_writes_nothing (Ok (Fetch words)) is early = refused_fetch words outcome.end is.1 early
+  refusal_writes_nothing (Ok (Relay words)) is early = refused_relay words outcome.end is.1 early
   refusal_writes_nothing (Err class) is early = is.output
 
   pub write_fault_of_seed : (said : Result Command WordClass) → Ran said → outcome.end ≡ WriteFault → IfSeed said (λ words. GivesStreamPrefix words old before now)
   write_fault_of_seed (Ok (Seed words)) is at = (seeded words WriteFault is at).0
   write_fault_of_seed (Ok (Fetch words)) is at = tt
+  write_fault_of_seed (Ok (Relay words)) is at = tt
   write_fault_of_seed (Err class) is at = tt
 
   pub write_fault_of_fetch : (said : Result Command WordClass) → Ran said → outcome.end ≡ WriteFault → IfFetch said (λ words. GivesPrefix words.receivers old outcome.trace before now)
   write_fault_of_fetch (Ok (Seed words)) is at = tt
   write_fault_of_fetch (Ok (Fetch words)) is at = (fetched words WriteFault is at).0
+  write_fault_of_fetch (Ok (Relay words)) is at = tt
   write_fault_of_fetch (Err class) is at = tt
+
+  pub write_fault_of_relay : (said : Result Command WordClass) → Ran said → outcome.end ≡ WriteFault → IfRelay said (λ words. Relays words old outcome.trace (AppendsPrefix before now))
+  write_fault_of_relay (Ok (Seed words)) is at = tt
+  write_fault_of_relay (Ok (Fetch words)) is at = tt
+  write_fault_of_relay (Ok (Relay words)) is at = (relayed words WriteFault is at).0
+  write_fault_of_relay (Err class) is at = tt
 
   pub memory_of_seed : (said : Result Command WordClass) → Ran said → outcome.end ≡ Memory → IfSeed said (λ words. Same ⊎ (GivesStreamPrefix words old before now × Unheld))
   memory_of_seed (Ok (Seed words)) is at = seeded words Memory is at
   memory_of_seed (Ok (Fetch words)) is at = tt
+  memory_of_seed (Ok (Relay words)) is at = tt
   memory_of_seed (Err class) is at = tt
 
   pub memory_of_fetch : (said : Result Command WordClass) → Ran said → outcome.end ≡ Memory → IfFetch said (λ words. (IsEmptyTrace outcome.trace × (Same ⊎ (Keeps before now × Unheld))) ⊎ (GivesSome words.receivers old outcome.trace before now × Unheld))
   memory_of_fetch (Ok (Seed words)) is at = tt
   memory_of_fetch (Ok (Fetch words)) is at = fetched words Memory is at
+  memory_of_fetch (Ok (Relay words)) is at = tt
   memory_of_fetch (Err class) is at = tt
 
-  -- ---- how the steps make it
-
-  pub ran_seed : (said : Result Command WordClass) (words : SeedWords) → said ≡ Ok (Seed words) → IsEmptyTrace outcome.trace → Seeded words outcome.end → Ran said
-  ran_seed said words says empty end = subst Ran (sym says) (empty, end)
-
-  pub ran_fetch : (said : Result Command WordClass) (words : FetchWords) → said ≡ Ok (Fetch words) → IsKeptFetch words.receivers outcome.end old outcome.trace → Fetched words outcome.end → Ran said
-  ran_fetch said words says keeps end = subst Ran (sym says) (keeps, end)
-
-  pub ran_nothing : (said : Result Command WordClass) (class : WordClass) → said ≡ Err class → outcome.end ≡ Usage class → Unmoved → Same → IsEmptyTrace outcome.trace → Ran said
-  ran_nothing said class says at unmoved same empty = subst Ran (sym says) (record { end = inl at; input = unmoved; output = same; trace = empty })
-
-  -- memory was wanted for the words
-  pub ran_out : (said : Result Command WordClass) → outcome.end ≡ Memory → Unmoved → Same → IsEmptyTrace outcome.trace → Ran said
-  ran_out (Ok (Seed words)) at unmoved same empty = (empty, subst (λ (e : End). Seeded words e) (sym at) (inl same))
-  ran_out (Ok (Fetch words)) at unmoved same empty =
-      (subst (λ (e : End). IsKeptFetch words.receivers e old outcome.trace) (sym at) (inl empty), subst (λ (e : End). Fetched words e) (sym at) (inl (empty, inl same)))
-  ran_out (Err class) at unmoved same empty = record { end = inr at; input = unmoved; output = same; trace = empty }
+  pub memory_of_relay : (said : Result Command WordClass) → Ran said → outcome.end ≡ Memory → IfRelay said (λ words. (IsEmptyTrace outcome.trace × (Same ⊎ (Keeps before now × Unheld))) ⊎ (Relays words old outcome.trace (AppendsSome before now) × Unheld))
+  memory_of_relay (Ok (Seed words)) is at = tt
+  memory_of_relay (Ok (Fetch words)) is at = tt
+  memory_of_relay (Ok (Relay words)) is at = relayed words Memory is at
+  memory_of_relay (Err class) is at = tt

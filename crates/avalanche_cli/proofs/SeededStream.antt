@@ -1,5 +1,5 @@
 -- What `seed` writes is a stream, and how long it is.
-use Rattle.std.proofs.Common.{◌≡◌, ℕ, zero, suc, ◌+◌, ◌*◌, ◌<◌, ◌≤◌, ◌^◌, Bool, true, false, List, [], ◌∷◌, ◌++◌, length, replicate, if◌then◌else◌, refl, ap, subst, ◌∙◌, length-append, lit<, arith}
+use Rattle.std.proofs.Common.{◌≡◌, ℕ, zero, suc, ◌+◌, ◌*◌, ◌<◌, ◌≤◌, ◌^◌, Bool, true, false, List, [], ◌∷◌, ◌++◌, length, replicate, if◌then◌else◌, refl, ap, ap₂, subst, ◌∙◌, length-append, lit<, arith}
 use Rattle.std.specs.Int.{w64, to_be_bytes, byte_at, bytes_high_first}
 use Rattle.std.specs.List.{All, flat_map, range_with_len}
 use Rattle.std.proofs.Math.Nat.{mul-le-mul_left, mul_assoc}
@@ -18,8 +18,9 @@ use Rattle.packet_wire.specs.declared.manifest.Manifest.{Manifest}
 use Rattle.packet_wire.specs.Frame.{frame, head}
 use Rattle.packet_wire.specs.Stream.{IsPacket, IsStream, IsTicket, end_frame, manifest_body, manifest_frame, packet_body, packet_frame, spelling_of, ticket_body, ticket_frame}
 use Rattle.avalanche_args.specs.declared.command.SeedWords.{SeedWords}
-use Rattle.avalanche_cli.specs.Seed.{IsSeedable, contents_of_seed, generation_packets_of, manifest_of_seed, packets_of_seed, shape_of_seed, stream_of_seed, stream_room_of, systematic_packet, systematic_packets_of, ticket_of_seed}
+use Rattle.avalanche_cli.specs.Seed.{IsSeedable, contents_of_seed, generation_packets_of, manifest_of_seed, packets_of_seed, seed_count_of, seed_draw, seed_draws_of, seed_packets_of, shape_of_seed, stream_of_seed, stream_room_of, ticket_of_seed}
 use Rattle.avalanche_cli.proofs.SeedLemmas.{is_shape}
+use Rattle.avalanche_cli.proofs.SystematicLemmas.{length-generation_packets}
 
 -- ---- bytes
 
@@ -51,21 +52,16 @@ length-key key peer = refl
 
 -- ---- a stream
 
--- a list that may be left out
-pub all_unless : {X : Type 0} (P : X → Type 0) (left_out : Bool) (xs : List X) → All P xs → All P (if left_out then [] else xs)
-all_unless P true xs all = All-nil P
-all_unless P false xs all = all
-
 pub is_ticket : (d : Dimensions) (ticket : Ticket) → AreBytes ticket.key → length ticket.key ≡ 32 → ticket.checks ≤ 8 → IsVector (generations_of d * ticket.checks * d.k) ticket.sums → IsTicket d ticket
 is_ticket d ticket bytes long few sums =
     let count : generations_of d * ticket.checks * d.k ≡ ticket.checks * generations_of d * d.k = omega arith in
     record { key_bytes = bytes; key_length = long; checks = few; sums = subst (λ (n : ℕ). IsVector n ticket.sums) count sums }
 
-pub is_stream : (words : SeedWords) (file : List ℕ) → IsSeedable words file → IsVector (generations_of (shape_of_seed words file) * words.checks * words.k) (ticket_of_seed words file).sums → All (IsPacket (shape_of_seed words file)) (systematic_packets_of (shape_of_seed words file) file) → IsStream (stream_of_seed words file) (contents_of_seed words file)
+pub is_stream : (words : SeedWords) (file : List ℕ) → IsSeedable words file → IsVector (generations_of (shape_of_seed words file) * words.checks * words.k) (ticket_of_seed words file).sums → All (IsPacket (shape_of_seed words file)) (packets_of_seed words file) → IsStream (stream_of_seed words file) (contents_of_seed words file)
 is_stream words file is sums packets = record {
   manifest = record { shape = is_shape words file is.in_range is.within; digest_bytes = AreBytes-sha256 file; digest_length = length-sha256 file };
   ticket = is_ticket (shape_of_seed words file) (ticket_of_seed words file) (AreBytes-key words.key words.peer) (length-key words.key words.peer) is.in_range.checks sums;
-  packets = all_unless (IsPacket (shape_of_seed words file)) words.bare (systematic_packets_of (shape_of_seed words file) file) packets;
+  packets = packets;
   spelled = refl;
 }
 
@@ -85,15 +81,24 @@ length-flat_map_same {X = X} f size (x ∷ xs) all =
     let P : X → Type 0 = λ y. length (f y) ≡ size in
     omega (arith, length-append (f x) (flat_map f xs), All-head P x xs all, length-flat_map_same f size xs (All-tail P x xs all))
 
-length-generation_packets : (d : Dimensions) (file : List ℕ) (g : ℕ) → length (generation_packets_of d file g) ≡ d.k
-unfolding generation_packets_of
-length-generation_packets d file g = length-map-range_with_len (systematic_packet d file g) 0 d.k
+-- a list of n items that may be left out
+length-unless : {X : Type 0} (left_out : Bool) (xs : List X) (n : ℕ) → length xs ≡ n → length (if left_out then [] else xs) ≡ (if left_out then 0 else n)
+length-unless true xs n count = refl
+length-unless false xs n count = count
 
-length-systematic_packets : (d : Dimensions) (file : List ℕ) → length (systematic_packets_of d file) ≡ generations_of d * d.k
-unfolding systematic_packets_of
-length-systematic_packets d file =
-    length-flat_map_same (generation_packets_of d file) d.k (range_with_len 0 (generations_of d)) (λ i e within. length-generation_packets d file _)
-    ∙ ap (λ (n : ℕ). n * d.k) (length-range_with_len 0 (generations_of d))
+length-seed_packets : (words : SeedWords) (file : List ℕ) (g : ℕ) → length (seed_packets_of words file g) ≡ seed_count_of words
+length-seed_packets words file g =
+    let d = shape_of_seed words file in
+    let own = generation_packets_of d file g in
+    let blocks = length-unless words.bare own words.k (length-generation_packets d file g) in
+    let draws = length-map-range_with_len (seed_draw words file g) (g * words.coded) words.coded in
+    length-append (if words.bare then [] else own) (seed_draws_of words file g) ∙ ap₂ (λ m n. m + n) blocks draws
+
+length-packets : (words : SeedWords) (file : List ℕ) → length (packets_of_seed words file) ≡ generations_of (shape_of_seed words file) * seed_count_of words
+length-packets words file =
+    let count = generations_of (shape_of_seed words file) in
+    length-flat_map_same (seed_packets_of words file) (seed_count_of words) (range_with_len 0 count) (λ i e within. length-seed_packets words file _)
+    ∙ ap (λ (n : ℕ). n * seed_count_of words) (length-range_with_len 0 count)
 
 -- the generations of a file have less than one generation more than its bytes
 few_bytes : (d : Dimensions) → IsShape d → generations_of d * d.k * d.block < d.len + d.k * d.block
@@ -103,8 +108,8 @@ few_bytes d shape =
     let times = div_ceil_times d.len (d.k * d.block) some in
     rw (mul_assoc (generations_of d) d.k d.block) times.1
 
--- and their stream is within the limit of a fetch
-pub few_frames : (d : Dimensions) (checks : ℕ) → IsShape d → checks ≤ 8 → stream_room_of d checks ≤ 67108864
+-- and the stream of their blocks is within the limit of a fetch
+few_frames : (d : Dimensions) (checks : ℕ) → IsShape d → checks ≤ 8 → stream_room_of d checks (generations_of d * d.k) ≤ 67108864
 few_frames d checks shape few =
     let g = generations_of d in
     let bytes = few_bytes d shape in
@@ -114,6 +119,21 @@ few_frames d checks shape few =
     let heads : g * d.k * (12 + 2 * d.k) ≤ g * d.k * 140 = mul-le-mul_left (g * d.k) own in
     let sums : g * d.k * checks ≤ g * d.k * 8 = mul-le-mul_left (g * d.k) few in
     omega arith
+
+-- so is one with no draws
+pub few_without_draws : (words : SeedWords) (d : Dimensions) → IsShape d → words.checks ≤ 8 → d.k ≡ words.k → words.coded ≡ 0 → stream_room_of d words.checks (generations_of d * seed_count_of words) ≤ 67108864
+few_without_draws words d shape few same none =
+    let size : ℕ = 12 + 2 * d.k + d.block in
+    let left = at_most words.bare words.k in
+    let count : seed_count_of words ≤ d.k = omega arith in
+    let packets : generations_of d * seed_count_of words ≤ generations_of d * d.k = mul-le-mul_left (generations_of d) count in
+    let frames : size * (generations_of d * seed_count_of words) ≤ size * (generations_of d * d.k) = mul-le-mul_left size packets in
+    let all = few_frames d words.checks shape few in
+    omega arith
+  where
+    at_most : (left_out : Bool) (n : ℕ) → (if left_out then 0 else n) ≤ n
+    at_most true n = omega arith
+    at_most false n = omega arith
 
 module _ (twice : (symbols : List ℕ) → length (be_bytes_of symbols) ≡ 2 * length symbols) where
   length-packet_frame : (d : Dimensions) (packet : Packet) → IsShape d → Fits d.k (symbols_per_block d) packet → length (packet_frame packet) ≡ 12 + 2 * d.k + d.block
@@ -133,24 +153,19 @@ module _ (twice : (symbols : List ℕ) → length (be_bytes_of symbols) ≡ 2 * 
   length-end_frame : length end_frame ≡ 10
   length-end_frame = length-frame 4 []
 
-  -- frames that may be left out
-  no_more_frames : (left_out : Bool) (packets : List Packet) → length (flat_map packet_frame (if left_out then [] else packets)) ≤ length (flat_map packet_frame packets)
-  no_more_frames true packets = omega arith
-  no_more_frames false packets = omega arith
-
-  pub length-stream : (words : SeedWords) (file : List ℕ) → IsSeedable words file → length (ticket_of_seed words file).sums ≡ generations_of (shape_of_seed words file) * words.checks * words.k → All (Fits words.k (symbols_per_block (shape_of_seed words file))) (systematic_packets_of (shape_of_seed words file) file) → length (stream_of_seed words file) ≤ stream_room_of (shape_of_seed words file) words.checks
+  pub length-stream : (words : SeedWords) (file : List ℕ) → IsSeedable words file → length (ticket_of_seed words file).sums ≡ generations_of (shape_of_seed words file) * words.checks * words.k → All (Fits words.k (symbols_per_block (shape_of_seed words file))) (packets_of_seed words file) → length (stream_of_seed words file) ≡ stream_room_of (shape_of_seed words file) words.checks (generations_of (shape_of_seed words file) * seed_count_of words)
   unfolding spelling_of
   length-stream words file is sums fit =
       let d = shape_of_seed words file in
       let shape = is_shape words file is.in_range is.within in
-      let packets = systematic_packets_of d file in
+      let packets = packets_of_seed words file in
+      let size : ℕ = 12 + 2 * words.k + words.block in
       let manifest = length-manifest_frame (manifest_of_seed words file) (length-sha256 file) in
       let ticket = length-ticket_frame (ticket_of_seed words file) (length-key words.key words.peer) in
-      let same = length-flat_map_same packet_frame (12 + 2 * words.k + words.block) packets (λ i e within. length-packet_frame d _ shape (fit i e within)) in
-      let count = length-systematic_packets d file in
-      let fewer = no_more_frames words.bare packets in
-      let all : length (flat_map packet_frame packets) ≡ generations_of d * words.k * (12 + 2 * words.k + words.block) = same ∙ ap (λ (n : ℕ). n * (12 + 2 * words.k + words.block)) count in
-      let back = length-append (flat_map packet_frame (packets_of_seed words file)) end_frame in
-      let middle = length-append (ticket_frame (ticket_of_seed words file)) (flat_map packet_frame (packets_of_seed words file) ++ end_frame) in
-      let front = length-append (manifest_frame (manifest_of_seed words file)) (ticket_frame (ticket_of_seed words file) ++ (flat_map packet_frame (packets_of_seed words file) ++ end_frame)) in
+      let all : length (flat_map packet_frame packets) ≡ generations_of d * seed_count_of words * size =
+      length-flat_map_same packet_frame size packets (λ i e within. length-packet_frame d _ shape (fit i e within))
+      ∙ ap (λ (n : ℕ). n * size) (length-packets words file) in
+      let back = length-append (flat_map packet_frame packets) end_frame in
+      let middle = length-append (ticket_frame (ticket_of_seed words file)) (flat_map packet_frame packets ++ end_frame) in
+      let front = length-append (manifest_frame (manifest_of_seed words file)) (ticket_frame (ticket_of_seed words file) ++ (flat_map packet_frame packets ++ end_frame)) in
       omega (arith, length-end_frame)

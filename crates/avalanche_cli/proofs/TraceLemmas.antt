@@ -1,5 +1,6 @@
 -- The traces of closed bases.
 use Rattle.std.proofs.Common.{◌≡◌, ℕ, zero, suc, ◌+◌, ◌<◌, List, [], ◌∷◌, ◌++◌, length, reverse, get_or, Some, None, refl, sym, ap, ◌∙◌, arith}
+use Rattle.std.specs.Prelude.{Option}
 use Rattle.std.proofs.lemmas.List.{append_assoc, reverse-append}
 use Rattle.std.proofs.lemmas.Bool.{cond_below}
 use Rattle.linear_spec.specs.declared.packet.Packet.{Packet}
@@ -7,9 +8,11 @@ use Rattle.linear_spec.specs.SequentialBasis.{packets_of}
 use Rattle.basis_core.specs.declared.trace.BasisTrace.{BasisTrace}
 use Rattle.basis_core.specs.Calls.{KeptCall}
 use Rattle.shared_basis.specs.declared.params.Closed.{Closed}
+use Rattle.shared_reception.specs.declared.sends.Sending.{Sending}
 use Rattle.shared_reception.specs.Dealing.{given_below}
 use Rattle.avalanche_cli.specs.Files.{recorded_packets}
 use Rattle.avalanche_cli.specs.Reception.{packets_in, trace_of, traces_of}
+use Rattle.avalanche_cli.specs.Trace.{caller_count}
 
 -- what stands past the end of a list
 abbrev pub no_basis : Closed
@@ -20,6 +23,11 @@ no_trace = record { peer = 0; generation = 0; records = record { items = []; spa
 
 pub given_here : (count number : ℕ) (kept : ℕ → List KeptCall) → number < count → given_below count kept number ≡ Some (kept number)
 given_here count number kept below = sym (cond_below number count (Some (kept number)) None below)
+
+-- a receiver is a caller
+pub is_caller : (receivers : ℕ) (sending : Option Sending) (number : ℕ) → number < receivers → number < caller_count receivers sending
+is_caller receivers None number low = low
+is_caller receivers (Some sending) number low = omega arith
 
 -- ---- the traces of bases
 

@@ -1,6 +1,6 @@
 -- Packets that are all true to some blocks: the only file of a legal trace is then the file of these blocks.
-use Rattle.std.proofs.Common.{◌≡◌, ℕ, zero, suc, ◌+◌, ◌<◌, Bool, true, false, cond, List, [], ◌∷◌, ◌++◌, length, map, get_or, Some, refl, sym, ap, ◌∙◌, subst, arith, inl, inr}
-use Rattle.std.specs.Prelude.{◌%◌, ◌==◌, ◌&&◌}
+use Rattle.std.proofs.Common.{◌≡◌, ℕ, zero, suc, ◌+◌, ◌<◌, Bool, true, false, cond, List, [], ◌∷◌, ◌++◌, length, map, get_or, None, Some, refl, sym, ap, ◌∙◌, subst, arith, inl, inr}
+use Rattle.std.specs.Prelude.{Option, ◌%◌, ◌==◌, ◌&&◌}
 use Rattle.std.specs.List.{All, AllByRecursion, AllZip, filter, flat_map, range_with_len}
 use Rattle.std.proofs.lemmas.List.{get_or-map, length-map}
 use Rattle.std.proofs.lemmas.List.FromFn.{get_or-map-range_with_len, length-map-range_with_len}
@@ -20,16 +20,17 @@ use Rattle.basis_core.specs.Legal.{IsLegalHistory, IsRecordedIn}
 use Rattle.basis_core.specs.Run.{AreInnovative, AreInnovativeFrom}
 use Rattle.receive_pass.specs.declared.worker.TaggedPacket.{TaggedPacket}
 use Rattle.receive_pass.specs.Workers.{AreOffersOf}
+use Rattle.shared_reception.specs.declared.sends.Sending.{Sending}
 use Rattle.shared_reception.specs.Dealing.{dealt_to, given_below, tagged_from}
 use Rattle.generation.specs.Shape.{generations_of, symbols_per_block}
 use Rattle.generation.specs.Blocks.{file_of}
 use Rattle.packet_wire.specs.Stream.{Contents}
 use Rattle.avalanche_cli.specs.Files.{AreSolvedBy, IsOnlyFileOf, SolveEach, recorded_packets, source_file}
 use Rattle.avalanche_cli.specs.Packets.{AreTrueTo, equations_of}
-use Rattle.avalanche_cli.specs.Trace.{IsLegalBasis, IsLegalFetch}
+use Rattle.avalanche_cli.specs.Trace.{IsLegalBasis, IsLegalFetch, caller_count}
 use Rattle.avalanche_cli.specs.declared.trace.Trace.{Trace}
 use Rattle.avalanche_cli.proofs.PassingLemmas.{is_passing, passes_of}
-use Rattle.avalanche_cli.proofs.TraceLemmas.{given_here, no_trace}
+use Rattle.avalanche_cli.proofs.TraceLemmas.{given_here, is_caller, no_trace}
 
 -- ---- the laws that are used
 
@@ -73,6 +74,10 @@ and_both : (a b : Bool) → a ≡ true → b ≡ true → a && b ≡ true
 and_both true b a_is b_is = b_is
 and_both false b a_is b_is = absurd cc
 
+pub and_left : (a b : Bool) → a && b ≡ true → a ≡ true
+and_left true b is = refl
+and_left false b is = absurd cc
+
 -- ---- of packets that a receiver gets, those of a generation: they are kept by two tests
 
 abbrev pub is_taken : ℕ → ℕ → TaggedPacket → Bool
@@ -98,10 +103,10 @@ all_pass : (equations : Equations) (records : List Record) (front : List Packet)
 all_pass equations [] front are = tt
 all_pass equations (first ∷ records) front are = (are.0.0, all_pass equations records (front ++ first.packet ∷ []) are.1)
 
-pub of_records : RecordedLaw → InnovativeLaw → (P : Packet → Type 0) (equations : Equations) (receivers : ℕ) (packets : List Packet) (generation : ℕ) (basis : BasisTrace) → IsLegalBasis equations receivers packets generation basis → All P (filter (is_passing equations generation) packets) → All P (packets_of basis.records.items)
-of_records recorded innovative P equations receivers packets generation basis is all =
+pub of_records : RecordedLaw → InnovativeLaw → (P : Packet → Type 0) (equations : Equations) (receivers : ℕ) (sending : Option Sending) (packets : List Packet) (generation : ℕ) (basis : BasisTrace) → IsLegalBasis equations receivers sending packets generation basis → All P (filter (is_passing equations generation) packets) → All P (packets_of basis.records.items)
+of_records recorded innovative P equations receivers sending packets generation basis is all =
     let records = basis.records.items in
-    let given = given_below receivers is.kept in
+    let given = given_below (caller_count receivers sending) is.kept in
     let pass : All (λ (r : Record). Passes equations r.packet) records = All-from_recursion (λ (r : Record). Passes equations r.packet) records (all_pass equations records [] (innovative equations given records is.legal)) in
     All-map P (λ (r : Record). r.packet) records (λ place other low.
     let r = get_or records place other in
@@ -109,7 +114,7 @@ of_records recorded innovative P equations receivers packets generation basis is
     let calls = is.kept r.caller in
     of_offered (λ (p : Packet). Passes equations p → P p) (dealt_to receivers r.caller generation packets) calls r.packet (is.offers r.caller listed)
     (of_dealt P equations receivers r.caller generation packets 0 (recursion_from_All P (filter (is_passing equations generation) packets) all))
-    (recorded equations given records r.caller calls is.legal (given_here receivers r.caller is.kept listed) place other low refl)
+    (recorded equations given records r.caller calls is.legal (given_here (caller_count receivers sending) r.caller is.kept (is_caller receivers sending r.caller listed)) place other low refl)
     (pass place other low))
 
 -- ---- the file
@@ -148,7 +153,7 @@ true_file recorded innovative receivers contents trace blocks file legal is_file
     let there : get_or (map blocks (range_with_len 0 count)) generation bs ≡ blocks generation = get_or-map-range_with_len blocks 0 count generation generation bs below (omega arith) in
     let source = true_to generation below in
     let all : All (IsTrueTo s (blocks generation)) (packets_of (get_or trace.bases.items generation no_trace).records.items) =
-    of_records recorded innovative (IsTrueTo s (blocks generation)) (equations_of contents) receivers contents.packets generation (get_or trace.bases.items generation no_trace) (legal.bases generation no_trace below) source.true_to in
+    of_records recorded innovative (IsTrueTo s (blocks generation)) (equations_of contents) receivers None contents.packets generation (get_or trace.bases.items generation no_trace) (legal.bases generation no_trace below) source.true_to in
     subst (λ (b : List (List ℕ)). AreSolvedBy k s (get_or packets generation ps) b) (sym there)
     (record {
       full = full;

@@ -1,5 +1,5 @@
--- Unit vectors: the block that one picks out, and the rank of those of all columns.
-use Rattle.std.proofs.Common.{◌≡◌, ◌≢◌, ℕ, zero, suc, ◌<◌, ◌≤◌, List, [], ◌∷◌, ◌++◌, length, map, replicate, get_or, refl, ap, ap₂, sym, subst, ◌∙◌, add-one, lit<, arith}
+-- Unit vectors: the block that one picks out, and the rank of those of all columns and of lists that begin with them.
+use Rattle.std.proofs.Common.{◌≡◌, ◌≢◌, ℕ, zero, suc, ◌<◌, ◌≤◌, List, [], ◌∷◌, ◌++◌, length, map, replicate, get_or, refl, ap, ap₂, sym, subst, ◌∙◌, inl, inr, add-one, lit<, arith}
 use Rattle.std.specs.List.{All, range_with_len}
 use Rattle.std.proofs.lemmas.List.{get_or-replicate, get_or-set_other, get_or-set_same, length-replicate, length-set}
 use Rattle.std.proofs.lemmas.List.Elements.{All-head, All-map, All-replicate, All-set, All-tail}
@@ -7,7 +7,7 @@ use Rattle.std.proofs.lemmas.List.FromFn.{get_or-map-range_with_len, get_or-rang
 use Rattle.gf16.specs.Field.{IsField, IsSymbol, product_of, sum_of}
 use Rattle.gf16.specs.Sums.{dot_of, plus_scaled}
 use Rattle.linear_spec.specs.Combination.{column_of, combination_of}
-use Rattle.linear_spec.specs.Span.{HasRank, InSpan}
+use Rattle.linear_spec.specs.Span.{HasRank, HasRankAfter, InSpan}
 use Rattle.linear_spec.specs.Symbols.{AreSymbols, IsVector}
 use Rattle.linear_spec.specs.UnitVector.{unit_of}
 
@@ -101,3 +101,24 @@ module _ (field : IsField) where
     -- the unit vectors of all columns have full rank
     pub full_rank_of_units : (k : ℕ) → HasRank k (map (unit_of k) (range_with_len 0 k)) k
     full_rank_of_units k = rank_of_units k k (omega arith)
+
+-- ---- a list that begins with vectors of full rank
+
+-- a list has no smaller rank than its front
+rank_of_front : (n : ℕ) (before front back : List (List ℕ)) (r q : ℕ) → HasRankAfter n before (front ++ back) r → HasRankAfter n before front q → q ≤ r
+rank_of_front n before [] back r q whole none = let no_rank : q ≡ 0 = none in omega arith
+rank_of_front n before (v ∷ front) back r q (inl within) (inl also) = rank_of_front n (before ++ v ∷ []) front back r q within.1 also.1
+rank_of_front n before (v ∷ front) back r q (inl within) (inr new) = absurd (new.0 within.0)
+rank_of_front n before (v ∷ front) back r q (inr new) (inl within) = absurd (new.0 within.0)
+rank_of_front n before (v ∷ front) back r q (inr new) (inr also) =
+    let fewer : also.1 ≤ new.1 = rank_of_front n (before ++ v ∷ []) front back new.1 also.1 new.3 also.3 in
+    omega (arith, new.2, also.2)
+
+-- vectors of n symbols behind some of rank n leave the rank as it is
+pub rank_of_more : ((n : ℕ) (vectors : List (List ℕ)) → All (IsVector n) vectors → (r : ℕ) × HasRank n vectors r) → ((n : ℕ) (vectors : List (List ℕ)) (r : ℕ) → All (IsVector n) vectors → HasRank n vectors r → r ≤ n) → (n : ℕ) (front back : List (List ℕ)) → All (IsVector n) (front ++ back) → HasRank n front n → HasRank n (front ++ back) n
+rank_of_more have most n front back vectors full =
+    let whole = have n (front ++ back) vectors in
+    let few : whole.0 ≤ n = most n (front ++ back) whole.0 vectors whole.1 in
+    let many : n ≤ whole.0 = rank_of_front n [] front back whole.0 n whole.1 full in
+    let same : whole.0 ≡ n = omega arith in
+    subst (λ (r : ℕ). HasRank n (front ++ back) r) same whole.1

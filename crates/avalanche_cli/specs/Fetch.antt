@@ -1,4 +1,4 @@
--- What `fetch` does with its input.
+-- What `fetch` does with its input, and what it and `relay` know of the stream that they read.
 -- input: the bytes that a source has left, where it tells them. contents: what a stream holds. receivers: the number of
 -- callers that the packets are dealt to.
 use Rattle.std.specs.Prelude.{◌≡◌, ◌≢◌, ◌≤◌, ◌<◌, ℕ, List, length, take, Option, IfSome}
@@ -17,7 +17,7 @@ use Rattle.avalanche_cli.specs.declared.trace.Trace.{Trace}
 
 -- ---- the bytes
 
--- the most bytes that a stream may have
+-- the most bytes of a stream that `fetch` and `relay` take
 abbrev pub stream_limit : ℕ
 stream_limit = 67108864
 

@@ -1,18 +1,17 @@
 -- How the steps of `fetch` end: for its private functions.
 -- before, now: what a sink holds, where it tells that. Same: that the output is as it was. Unread, Unwritten, Unheld: that
 -- the counts of the input's faults, of the output's faults and of the output's wants rose. Sound: that the bytes which were
--- read have no fault.
+-- read have no fault but that they end too early.
 use Rattle.std.specs.Prelude.{◌≡◌, ◌⊎◌, ℕ, true, false, List, Option, IfSome, Result, Ok, Err}
 use Rattle.std.specs.Io.KnownBytes.{Keeps}
 use Rattle.linear_spec.specs.List.{ListValue}
 use Rattle.packet_wire.specs.Stream.{Contents}
-use Rattle.avalanche_cli.specs.Delivery.{IsDelivered}
+use Rattle.avalanche_cli.specs.Delivery.{IsAfterDelivery, IsDelivered}
 use Rattle.avalanche_cli.specs.Fetch.{Gives, GivesPrefix, GivesSome, HasOtherDigest, Holds, IsTooLong, IsUnfetchable, LacksRank, stream_limit}
 use Rattle.avalanche_cli.specs.Reception.{IsJudged}
 use Rattle.avalanche_cli.specs.EmptyTrace.{IsEmptyTrace}
 use Rattle.avalanche_cli.specs.Trace.{IsLegalFetch}
 use Rattle.avalanche_cli.specs.declared.delivery.Delivery.{Delivery}
-use Rattle.avalanche_cli.specs.declared.delivery.Delivery.TheVariants as delivery
 use Rattle.avalanche_cli.specs.declared.reading.NoStream.{NoStream}
 use Rattle.avalanche_cli.specs.declared.reading.NoStream.TheVariants as no_stream
 use Rattle.avalanche_cli.specs.declared.reception.NoFile.{NoFile}
@@ -48,13 +47,6 @@ pub record IsReceptionOf (receivers : ℕ) (input : Option (List ℕ)) (trace : 
   pub judged : IsJudged contents trace file
 
 -- ---- writing
-
--- the outcome after a write: it has the trace, unless memory was wanted and the output took nothing
-abbrev pub IsAfterDelivery : Trace → Outcome → Delivery → Type 0
-IsAfterDelivery trace outcome delivery.Whole = (outcome.end ≡ Done) × (outcome.trace ≡ trace)
-IsAfterDelivery trace outcome delivery.Fault = (outcome.end ≡ WriteFault) × (outcome.trace ≡ trace)
-IsAfterDelivery trace outcome (delivery.Memory false) = (outcome.end ≡ Memory) × IsEmptyTrace outcome.trace
-IsAfterDelivery trace outcome (delivery.Memory true) = (outcome.end ≡ Memory) × (outcome.trace ≡ trace)
 
 -- the outcome where there was no file to write
 abbrev pub IsAfterNoFile : Trace → Outcome → NoFile → Type 0

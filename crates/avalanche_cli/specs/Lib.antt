@@ -9,7 +9,10 @@ pub mod Lines
 pub mod Packets
 pub mod Reading
 pub mod Reception
+pub mod Relay
 pub mod Run
 pub mod RunSteps
 pub mod Seed
+pub mod SendSteps
+pub mod Sends
 pub mod Trace

@@ -4,11 +4,12 @@
 -- faults and of the output's wants rose.
 use Rattle.std.specs.Prelude.{◌≡◌, ◌⊎◌, ℕ, List, Option, Result, Ok, Err}
 use Rattle.avalanche_args.specs.declared.command.Command.{Command}
-use Rattle.avalanche_args.specs.declared.command.Command.TheVariants.{Seed, Fetch}
+use Rattle.avalanche_args.specs.declared.command.Command.TheVariants.{Seed, Fetch, Relay}
 use Rattle.avalanche_args.specs.declared.usage.WordClass.{WordClass}
 use Rattle.avalanche_cli.specs.EmptyTrace.{IsEmptyTrace}
 use Rattle.avalanche_cli.specs.Fetch.{HasReadSound}
 use Rattle.avalanche_cli.specs.FetchSteps.{IsEnd}
+use Rattle.avalanche_cli.specs.Relay.{IsKeptRelay, IsRelayEnd}
 use Rattle.avalanche_cli.specs.Run.{IsKeptFetch}
 use Rattle.avalanche_cli.specs.Seed.{IsSeedEnd}
 use Rattle.avalanche_cli.specs.declared.outcome.Outcome.{Outcome}
@@ -28,4 +29,7 @@ IsRun old new before now Unmoved Same Unread Unwritten Unheld outcome (Ok (Seed 
 IsRun old new before now Unmoved Same Unread Unwritten Unheld outcome (Ok (Fetch words)) =
     IsKeptFetch words.receivers outcome.end old outcome.trace
     × IsEnd words.receivers old outcome.trace before now Same Unread (HasReadSound old new) Unwritten Unheld outcome.end
+IsRun old new before now Unmoved Same Unread Unwritten Unheld outcome (Ok (Relay words)) =
+    IsKeptRelay words outcome.end old outcome.trace
+    × IsRelayEnd words old outcome.trace before now Same Unread (HasReadSound old new) Unwritten Unheld outcome.end
 IsRun old new before now Unmoved Same Unread Unwritten Unheld outcome (Err class) = IsRefused Unmoved Same outcome class

@@ -2,20 +2,20 @@
 -- words: what it is to do. file: the bytes of the input. d: the dimensions of the file's shape. g: a generation, from 0.
 -- before, now: what a sink holds, where it tells that. Same: that the output is as it was. Unread, Unwritten, Unheld: that
 -- the counts of the input's faults, of the output's faults and of the output's wants rose.
-use Rattle.std.specs.Prelude.{◌≡◌, ◌⊎◌, ◌+◌, ◌*◌, ◌<◌, ◌≤◌, ℕ, List, [], Option, IfSome, length, map, min}
+use Rattle.std.specs.Prelude.{◌≡◌, ◌⊎◌, ◌+◌, ◌*◌, ◌<◌, ◌≤◌, ◌++◌, ℕ, List, [], Option, IfSome, length, map, min}
 use Rattle.std.specs.Prelude.{if◌then◌else◌}
 use Rattle.std.specs.List.{flat_map, range_with_len}
 use Rattle.std.specs.Io.KnownBytes.{Appends}
 use Rattle.sha2.specs.Sha256.{sha256}
 use Rattle.linear_spec.specs.declared.packet.Packet.{Packet}
 use Rattle.linear_spec.specs.Symbols.{AreBytes}
-use Rattle.linear_spec.specs.UnitVector.{unit_of}
 use Rattle.swarm_io.specs.Moved.{AppendsPrefix}
 use Rattle.generation.specs.declared.ticket.Ticket.{Ticket}
-use Rattle.generation.specs.Shape.{Dimensions, generations_of}
-use Rattle.generation.specs.Blocks.{block_of}
-use Rattle.src_check.specs.Keys.{key_of_ticket}
+use Rattle.generation.specs.Shape.{Dimensions, generations_of, symbols_per_block}
+use Rattle.src_check.specs.Keys.{key_of_number, key_of_ticket}
 use Rattle.src_check.specs.Tickets.{file_sums_of}
+use Rattle.recode.specs.Draws.{drawn_packet, numbers_of}
+use Rattle.recode.specs.Systematic.{systematic_packet}
 use Rattle.packet_wire.specs.declared.manifest.Manifest.{Manifest}
 use Rattle.packet_wire.specs.Stream.{Contents, spelling_of}
 use Rattle.avalanche_args.specs.declared.command.SeedWords.{SeedWords}
@@ -41,17 +41,9 @@ shape_of_seed words file = record { len = length file; k = words.k; block = word
 
 -- ---- the stream
 
--- the packet of column i: the block itself, under the unit coefficients of its column
-abbrev pub systematic_packet : Dimensions → List ℕ → ℕ → ℕ → Packet
-systematic_packet d file g i = record { generation = g; coeffs = unit_of d.k i; payload = block_of d file g i }
-
 -- a packet for each column of a generation
 unfoldable pub generation_packets_of : Dimensions → List ℕ → ℕ → List Packet
 generation_packets_of d file g = map (systematic_packet d file g) (range_with_len 0 d.k)
-
--- the packets of all generations in order
-unfoldable pub systematic_packets_of : Dimensions → List ℕ → List Packet
-systematic_packets_of d file = flat_map (generation_packets_of d file) (range_with_len 0 (generations_of d))
 
 -- the file's shape and its digest
 abbrev pub manifest_of_seed : SeedWords → List ℕ → Manifest
@@ -65,9 +57,23 @@ ticket_of_seed words file = record {
   sums = file_sums_of (shape_of_seed words file) file (key_of_ticket words.key words.peer) words.checks;
 }
 
--- the packets that the words ask for: none where the blocks themselves are left out
+-- a draw over all packets of a generation, on link 0; q is its number there
+abbrev pub seed_draw : SeedWords → List ℕ → ℕ → ℕ → Packet
+seed_draw words file g q = let d = shape_of_seed words file in
+    drawn_packet d.k (symbols_per_block d) g (key_of_number words.key) 0 q (generation_packets_of d file g)
+
+-- the draws of a generation
+abbrev pub seed_draws_of : SeedWords → List ℕ → ℕ → List Packet
+seed_draws_of words file g = map (seed_draw words file g) (numbers_of words.coded g)
+
+-- the packets of a generation that the words ask for: its blocks, unless they are left out, and then its draws
+abbrev pub seed_packets_of : SeedWords → List ℕ → ℕ → List Packet
+seed_packets_of words file g =
+    (if words.bare then [] else generation_packets_of (shape_of_seed words file) file g) ++ seed_draws_of words file g
+
+-- those of all generations, in order
 abbrev pub packets_of_seed : SeedWords → List ℕ → List Packet
-packets_of_seed words file = if words.bare then [] else systematic_packets_of (shape_of_seed words file) file
+packets_of_seed words file = flat_map (seed_packets_of words file) (range_with_len 0 (generations_of (shape_of_seed words file)))
 
 -- what the stream of a file holds
 abbrev pub contents_of_seed : SeedWords → List ℕ → Contents
@@ -81,11 +87,15 @@ contents_of_seed words file = record {
 abbrev pub stream_of_seed : SeedWords → List ℕ → List ℕ
 stream_of_seed words file = spelling_of (contents_of_seed words file)
 
--- the most bytes that it has: 107 for the frames of the manifest, a ticket with no sums, and the end; two for each sum,
--- one of each block for each check; and those of a packet's frame for each block
-abbrev pub stream_room_of : Dimensions → ℕ → ℕ
-stream_room_of d checks =
-    107 + 2 * (generations_of d * checks * d.k) + generations_of d * d.k * (12 + 2 * d.k + d.block)
+-- the packets of each generation
+abbrev pub seed_count_of : SeedWords → ℕ
+seed_count_of words = (if words.bare then 0 else words.k) + words.coded
+
+-- the bytes of a stream with so many packets: 107 for the frames of the manifest, a ticket with no sums, and the end; two for each
+-- sum, one of each block for each check; and those of a packet's frame for each packet
+abbrev pub stream_room_of : Dimensions → ℕ → ℕ → ℕ
+stream_room_of d checks packets =
+    107 + 2 * (generations_of d * checks * d.k) + packets * (12 + 2 * d.k + d.block)
 
 -- ---- how a run ends
 

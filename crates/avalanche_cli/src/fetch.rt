@@ -5,10 +5,10 @@ ghost use Rattle.swarm_io.specs.Counts.{Rose};
 ghost use Rattle.swarm_io.specs.Moved.{TakesAtMost};
 ghost use Rattle.avalanche_args.specs.Ranges.{AreFetchWords};
 ghost use Rattle.avalanche_cli.specs.Fetch.{HasReadSound, stream_limit};
-ghost use Rattle.avalanche_cli.specs.FetchSteps.{IsAfterDelivery, IsAfterNoFile, IsEnd, IsFinished, IsReceptionOf, IsUnread};
+ghost use Rattle.avalanche_cli.specs.FetchSteps.{IsAfterNoFile, IsEnd, IsFinished, IsReceptionOf, IsUnread};
 ghost use Rattle.avalanche_cli.specs.Run.{IsKeptFetch};
 
-use crate::delivery::{Delivery, deliver};
+use crate::delivery::{after_delivery, deliver};
 use crate::reading::{NoStream, read_stream};
 use crate::reception::{NoFile, Reception, receive};
 use crate::stream::Stream;
@@ -82,27 +82,6 @@ fn finished<O: Sink>(alloc: Global, reception: Reception, output: &mut O) -> Out
     match file {
         Ok(file) => after_delivery(alloc, trace, deliver(output, file.as_slice())),
         Err(reason) => after_no_file(alloc, trace, reason),
-    }
-}
-
-/// The outcome after a write: with no trace where memory was wanted and the output took nothing.
-fn after_delivery(alloc: Global, trace: Trace, delivery: Delivery) -> Outcome
-    ensures { IsAfterDelivery trace result delivery }
-{
-    match delivery {
-        Delivery::Whole => Outcome {
-            end: End::Done,
-            trace,
-        },
-        Delivery::Fault => Outcome {
-            end: End::WriteFault,
-            trace,
-        },
-        Delivery::Memory { took: true } => Outcome {
-            end: End::Memory,
-            trace,
-        },
-        Delivery::Memory { took: false } => Outcome::without_trace(alloc, End::Memory),
     }
 }
 

@@ -1,5 +1,5 @@
 //! Laws over the definitions alone: each is the contract of a function that does nothing but take other laws.
-ghost use Rattle.std.specs.Prelude.{◌≡◌, ◌↔◌, ℕ, List, Some, IsTrue};
+ghost use Rattle.std.specs.Prelude.{◌≡◌, ◌↔◌, ℕ, List, Option, Some, IsTrue};
 ghost use Rattle.std.specs.List.{All};
 ghost use Rattle.linear_spec.specs.declared.equations.Equations.{Equations};
 ghost use Rattle.linear_spec.specs.declared.packet.Packet.{Packet};
@@ -8,14 +8,17 @@ ghost use Rattle.linear_spec.specs.Passing.{IsFirstFailing, Passes};
 ghost use Rattle.basis_core.specs.declared.trace.BasisTrace.{BasisTrace};
 ghost use Rattle.generation.specs.Shape.{symbols_per_block};
 ghost use Rattle.packet_wire.specs.Stream.{Contents};
+ghost use Rattle.shared_reception.specs.declared.sends.Sending.{Sending};
 ghost use Rattle.avalanche_cli.specs.declared.trace.Trace.{Trace};
 ghost use Rattle.avalanche_cli.specs.Files.{IsFirstIncomplete, IsOnlyFileOf, recorded_packets, source_file};
 ghost use Rattle.avalanche_cli.specs.Headline.{IsOneHistory};
 ghost use Rattle.avalanche_cli.specs.Packets.{AreTrueTo, HasFullRank, equations_of, first_failing_check, passes};
 ghost use Rattle.avalanche_cli.specs.Trace.{IsLegalBasis, IsLegalFetch};
 
+mod relaying;
 mod seeding;
 
+pub use relaying::relayed_streams;
 pub use seeding::seeded_streams;
 
 /// The check that is found for a packet is the first that it fails, and the packet passes where none is found.
@@ -48,10 +51,10 @@ pub fn true_packets()
 
 /// What the headline says of a basis follows from a legal one, where the stream's packets fit.
 pub fn one_history()
-    ensures { (receivers generation : ℕ) (contents : Contents) (basis : BasisTrace)
+    ensures { (receivers : ℕ) (sending : Option Sending) (generation : ℕ) (contents : Contents) (basis : BasisTrace)
         → All (Fits contents.manifest.shape.k (symbols_per_block contents.manifest.shape)) contents.packets
-        → IsLegalBasis (equations_of contents) receivers contents.packets generation basis
-        → IsOneHistory (equations_of contents) receivers contents.packets generation basis }
+        → IsLegalBasis (equations_of contents) receivers sending contents.packets generation basis
+        → IsOneHistory (equations_of contents) receivers sending contents.packets generation basis }
 {
     basis_core::laws::callers();
     basis_core::laws::records();

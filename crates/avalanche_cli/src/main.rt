@@ -10,9 +10,11 @@ mod outcome;
 mod program;
 mod reading;
 mod reception;
+mod relay;
+mod room;
 mod seed;
+mod sending;
 mod stream;
-mod systematic;
 mod trace;
 
 use avalanche_args::WordClass;

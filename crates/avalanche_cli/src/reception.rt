@@ -95,7 +95,7 @@ pub(crate) fn receive<R: Threads + Sync, G: Gate>(
 }
 
 /// What is kept of the bases of all generations.
-fn traces_of(alloc: Global, mut bases: List<Closed>) -> Result<List<BasisTrace>, Memory>
+pub(crate) fn traces_of(alloc: Global, mut bases: List<Closed>) -> Result<List<BasisTrace>, Memory>
     requires { length bases.items ≤ 256 }
     ensures { IfOk result (λ traces. traces.items ≡ traces_of 0 bases.items) }
 {

@@ -1,27 +1,30 @@
 //! The command `seed`: the stream of a file.
-ghost use Rattle.std.specs.Prelude.{◌≡◌, ◌⊎◌, ◌≤◌, ◌<◌, ◌+◌, ◌++◌, ℕ, List as list, IfOk, IfErr, IfSome, OnOk, length};
-ghost use Rattle.std.specs.List.{flat_map};
+ghost use Rattle.std.specs.Prelude.{◌≡◌, ◌⊎◌, ◌≤◌, ◌<◌, ◌+◌, ◌*◌, ◌^◌, ◌++◌, ℕ, List as list, IfOk, IfErr, IfSome, OnOk, length};
+ghost use Rattle.std.specs.List.{All, flat_map};
 ghost use Rattle.std.specs.Io.KnownBytes.{IsAtEnd};
+ghost use Rattle.linear_spec.specs.Packet.{Fits};
 ghost use Rattle.linear_spec.specs.Symbols.{AreBytes};
 ghost use Rattle.swarm_io.specs.Counts.{Rose};
 ghost use Rattle.swarm_io.specs.Moved.{TakesAtMost};
-ghost use Rattle.generation.specs.Shape.{generations_of};
+ghost use Rattle.generation.specs.Shape.{generations_of, symbols_per_block};
 ghost use Rattle.packet_wire.specs.Stream.{packet_frame, ticket_frame};
 ghost use Rattle.avalanche_args.specs.Ranges.{AreSeedWords};
 ghost use Rattle.avalanche_cli.specs.End.{end_of_read};
+ghost use Rattle.avalanche_cli.specs.SendSteps.{FitsFrame};
 ghost use Rattle.avalanche_cli.specs.Seed.{IsSeedEnd, IsSeedFile, IsSeedRefusal, IsStreamWritten};
-ghost use Rattle.avalanche_cli.specs.Seed.{generation_packets_of, packets_of_seed, seed_limit, shape_of_seed};
-ghost use Rattle.avalanche_cli.specs.Seed.{stream_of_seed, stream_room_of, systematic_packets_of, ticket_of_seed};
+ghost use Rattle.avalanche_cli.specs.Seed.{generation_packets_of, packets_of_seed, seed_count_of, seed_draws_of, seed_limit, seed_packets_of};
+ghost use Rattle.avalanche_cli.specs.Seed.{shape_of_seed, stream_of_seed, ticket_of_seed};
 
 use crate::End;
-use crate::systematic::systematic;
+use crate::room::stream_room;
 use avalanche_args::SeedWords;
 use digest_file::digest;
 use generation::Shape;
 use gf16::Memory;
-use linear_spec::List;
+use linear_spec::{List, Packet, SymVec};
 use packet_wire::{Manifest, write_end, write_manifest, write_packet, write_ticket};
-use src_check::{make_ticket, ticket_key};
+use recode::{draw_plain, systematic};
+use src_check::{make_ticket, number_key, ticket_key};
 use std::alloc::Global;
 use swarm_io::{ReadAllError, Sink, Source, read_all, write_all_of};
 
@@ -31,14 +34,9 @@ const MAX_FILE: u64 = 16_777_216;
 /// The most generations that a file may have.
 const MAX_GENERATIONS: u64 = 256;
 
-/// The bytes of the frames of the manifest, of a ticket with no sums, and of the end.
-const FIXED: usize = 107;
-
-/// The bytes of a packet's frame before its symbols.
-const PACKET_FRONT: usize = 12;
-
-/// Reads a file and writes its stream: the manifest, the ticket, a packet for each block unless the words ask for none, and
-/// the end. The stream stands in memory before its first byte is written.
+/// Reads a file and writes its stream: the manifest, the ticket, for each generation a packet for each of its blocks unless
+/// the words leave them out and then the draws over them all, and the end. The stream stands in memory before its first byte
+/// is written.
 pub(crate) fn seed<I: Source, O: Sink>(
     alloc: Global,
     words: &SeedWords,
@@ -144,7 +142,7 @@ fn stream_of_file(alloc: Global, words: &SeedWords, file: &[u8]) -> Result<List<
 {
     let shape = shape_of(words, file);
     let mut stream = List::new(alloc);
-    stream.reserve(stream_room(&shape, words.checks))?;
+    stream.reserve(stream_room(&shape, words.checks, packet_count(words, &shape)))?;
     let manifest = Manifest {
         shape,
         digest: digest(file),
@@ -165,14 +163,14 @@ fn shape_of(words: &SeedWords, file: &[u8]) -> Shape
     Shape::new(file.len() as u64, words.k, words.block).unwrap()
 }
 
-/// The room that the stream of a file of this shape takes, with all its packets.
-fn stream_room(shape: &Shape, checks: u8) -> usize
-    requires { checks ≤ 8 }
-    ensures { result ≡ stream_room_of shape.now checks }
+/// The number of packets of all generations.
+fn packet_count(words: &SeedWords, shape: &Shape) -> usize
+    requires words { AreSeedWords words.now }
+    ensures count { result ≡ generations_of shape.now * seed_count_of words.now }
+    ensures few { result < 2 ^ 32 }
 {
-    let (generations, k) = (usize::from(shape.generations()), usize::from(shape.k()));
-    let packet = PACKET_FRONT + 2 * k + usize::from(shape.block());
-    FIXED + 2 * (generations * usize::from(checks) * k) + generations * k * packet
+    let blocks = if words.bare { 0 } else { words.k };
+    usize::from(shape.generations()) * (usize::from(blocks) + words.coded as usize)
 }
 
 /// Appends the frame of the ticket.
@@ -194,7 +192,7 @@ fn append_ticket(
     write_ticket(&ticket, stream)
 }
 
-/// Appends the frames of the packets that the words ask for.
+/// Appends the frames of the packets that the words ask for, generation after generation.
 fn append_packets(
     alloc: Global,
     words: &SeedWords,
@@ -202,48 +200,100 @@ fn append_packets(
     file: &[u8],
     stream: &mut List<u8>,
 ) -> Result<(), Memory>
-    requires { shape.now ≡ shape_of_seed words.now file.now }
+    requires words { AreSeedWords words.now }
+    requires shape { shape.now ≡ shape_of_seed words.now file.now }
     ensures { OnOk result (stream.new.items
         ≡ stream.old.items ++ flat_map packet_frame (packets_of_seed words.now file.now)) }
 {
-    if words.bare {
-        return Ok(());
-    }
-    append_generations(alloc, shape, file, stream)
-}
-
-/// Appends the frames of the packets of all generations.
-fn append_generations(
-    alloc: Global,
-    shape: &Shape,
-    file: &[u8],
-    stream: &mut List<u8>,
-) -> Result<(), Memory>
-    requires { length file.now ≡ shape.now.len }
-    ensures { OnOk result (stream.new.items
-        ≡ stream.old.items ++ flat_map packet_frame (systematic_packets_of shape.now file.now)) }
-{
-    for g in 0..shape.generations() {
-        append_generation(alloc, shape, file, g, stream)?;
+    for generation in 0..shape.generations() {
+        append_generation(alloc, words, shape, file, generation, stream)?;
     }
     Ok(())
 }
 
-/// Appends the frames of the packets of a generation.
+/// Appends the frames of the packets of a generation: of its blocks unless they are left out, and of the draws over them.
 fn append_generation(
+    alloc: Global,
+    words: &SeedWords,
+    shape: &Shape,
+    file: &[u8],
+    generation: u16,
+    stream: &mut List<u8>,
+) -> Result<(), Memory>
+    requires words { AreSeedWords words.now }
+    requires shape { shape.now ≡ shape_of_seed words.now file.now }
+    requires generation { generation < generations_of shape.now }
+    ensures { OnOk result (stream.new.items
+        ≡ stream.old.items ++ flat_map packet_frame (seed_packets_of words.now file.now generation)) }
+{
+    let blocks = generation_packets(alloc, shape, file, generation)?;
+    if !words.bare {
+        append_all(&blocks, stream)?;
+    }
+    append_draws(alloc, words, shape, file, &blocks, generation, stream)
+}
+
+/// The packets of the blocks of a generation.
+fn generation_packets(
     alloc: Global,
     shape: &Shape,
     file: &[u8],
-    g: u16,
+    generation: u16,
+) -> Result<List<Packet>, Memory>
+    requires file { length file.now ≡ shape.now.len }
+    requires generation { generation < generations_of shape.now }
+    ensures packets { IfOk result (λ packets. packets.items ≡ generation_packets_of shape.now file.now generation) }
+    ensures fit { IfOk result (λ packets. All (Fits shape.now.k (symbols_per_block shape.now)) packets.items) }
+    ensures frames { IfOk result (λ packets. All FitsFrame packets.items) }
+{
+    let mut packets = List::new(alloc);
+    packets.reserve(usize::from(shape.k()))?;
+    for column in 0..shape.k() {
+        packets.put(systematic(alloc, shape, file, generation, column)?);
+    }
+    Ok(packets)
+}
+
+/// Appends the frames of packets.
+fn append_all(packets: &List<Packet>, stream: &mut List<u8>) -> Result<(), Memory>
+    requires { All FitsFrame packets.now.items }
+    ensures { OnOk result (stream.new.items ≡ stream.old.items ++ flat_map packet_frame packets.now.items) }
+{
+    for packet in packets.as_slice() {
+        write_packet(packet, stream)?;
+    }
+    Ok(())
+}
+
+/// Appends the frames of the draws over all packets of a generation.
+fn append_draws(
+    alloc: Global,
+    words: &SeedWords,
+    shape: &Shape,
+    file: &[u8],
+    blocks: &List<Packet>,
+    generation: u16,
     stream: &mut List<u8>,
 ) -> Result<(), Memory>
-    requires file { length file.now ≡ shape.now.len }
-    requires generation { g < generations_of shape.now }
+    requires words { AreSeedWords words.now }
+    requires shape { shape.now ≡ shape_of_seed words.now file.now }
+    requires generation { generation < generations_of shape.now }
+    requires blocks { blocks.now.items ≡ generation_packets_of shape.now file.now generation }
+    requires fit { All (Fits shape.now.k (symbols_per_block shape.now)) blocks.now.items }
     ensures { OnOk result (stream.new.items
-        ≡ stream.old.items ++ flat_map packet_frame (generation_packets_of shape.now file.now g)) }
+        ≡ stream.old.items ++ flat_map packet_frame (seed_draws_of words.now file.now generation)) }
 {
-    for i in 0..shape.k() {
-        let packet = systematic(alloc, shape, file, g, i)?;
+    // The file stands in the contract alone.
+    let _ = file;
+    let key = number_key(words.key);
+    let mut packet = Packet {
+        generation,
+        coeffs: SymVec::zeros(alloc, usize::from(shape.k()))?,
+        payload: SymVec::zeros(alloc, usize::from(shape.symbols_per_block()))?,
+    };
+    let first = u32::from(generation) * words.coded;
+    for place in 0..words.coded {
+        draw_plain(&key, 0, first + place, blocks, &mut packet);
         write_packet(&packet, stream)?;
     }
     Ok(())

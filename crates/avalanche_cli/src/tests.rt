@@ -15,6 +15,7 @@ use swarm_io::{Failed, MemSink, MemSource, Sink, SinkRefusal, Source, SteadySink
 mod fetching;
 mod history;
 mod large;
+mod relaying;
 mod seeding;
 
 // The file `abc` in two blocks of two bytes, as its two blocks.
@@ -137,11 +138,11 @@ impl Source for Counting {
     }
 }
 
-#[test]
-fn words_that_say_no_command_read_nothing(rt: HostRuntime) -> Result<(), Fail> {
-    let alloc = rt.alloc();
+/// Lines that say no command, what is wrong with each, and its line on the error output.
+fn refused_lines<'a>() -> [(&'a str, WordClass, &'a str); 8] {
     let receivers = WordClass::BadNumber(OptionName::Receivers);
-    let cases = [
+    let bad_receivers = "avalanche: usage: bad number receivers\n";
+    [
         ("", WordClass::NoCommand, "avalanche: usage: no command\n"),
         (
             "bake",
@@ -154,17 +155,25 @@ fn words_that_say_no_command_read_nothing(rt: HostRuntime) -> Result<(), Fail> {
             "avalanche: usage: bad words\n",
         ),
         (
-            "fetch --receivers 0",
-            receivers,
-            "avalanche: usage: bad number receivers\n",
+            "relay --bare yes",
+            WordClass::BadWords,
+            "avalanche: usage: bad words\n",
         ),
         (
-            "fetch --receivers x",
-            receivers,
-            "avalanche: usage: bad number receivers\n",
+            "relay --link 65536",
+            WordClass::BadNumber(OptionName::LinkNumber),
+            "avalanche: usage: bad number link\n",
         ),
-    ];
-    for (line, class, text) in cases {
+        ("relay --receivers 9", receivers, bad_receivers),
+        ("fetch --receivers 0", receivers, bad_receivers),
+        ("fetch --receivers x", receivers, bad_receivers),
+    ]
+}
+
+#[test]
+fn words_that_say_no_command_read_nothing(rt: HostRuntime) -> Result<(), Fail> {
+    let alloc = rt.alloc();
+    for (line, class, text) in refused_lines() {
         let mut input = Counting { reads: 0 };
         let mut output = SteadySink::new(alloc, 1);
         let mut errors = SteadySink::new(alloc, 7);

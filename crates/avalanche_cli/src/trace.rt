@@ -1,8 +1,8 @@
 use basis_core::BasisTrace;
 use linear_spec::{Drawn, List};
 
-/// A draw that was sent: in which round, over which link, from which peer's basis of which generation, as which draw on
-/// that link, and what it was answered.
+/// A draw that was made to be sent: in which round, over which link, from which peer's basis of which generation, as which draw on
+/// that link, and what it was answered. At `Nothing` no packet was sent.
 #[derive(Clone, Copy, Debug, PartialEq, Eq)]
 pub struct SendEntry {
     pub round: u32,
@@ -13,7 +13,7 @@ pub struct SendEntry {
     pub drawn: Drawn,
 }
 
-/// The calls that are kept of a run: its bases, by generation, and what was sent.
+/// The calls that are kept of a run: its bases, by generation, and the draws that were made to be sent.
 #[derive(Debug, Drop)]
 pub struct Trace {
     pub bases: List<BasisTrace>,

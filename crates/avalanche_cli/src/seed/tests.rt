@@ -11,6 +11,7 @@ fn words_of(k: u16, block: u16) -> SeedWords
     ensures block { result.block ≡ block }
     ensures checks { result.checks ≡ 0 }
     ensures peer { result.peer ≡ 1 }
+    ensures coded { result.coded ≡ 0 }
 {
     SeedWords {
         k,

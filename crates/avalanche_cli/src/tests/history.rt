@@ -1,4 +1,4 @@
-//! Receivers in threads, and the one history that a fetch keeps of them.
+//! Receivers in threads, and the one history that is kept of them.
 ghost use Rattle.std.specs.Prelude.{◌<◌, IfOk, IsTrue};
 ghost use Rattle.std.specs.List.{All};
 ghost use Rattle.linear_spec.specs.Packet.{Fits};
@@ -46,9 +46,8 @@ impl Gate for MeetingGate {
     }
 }
 
-#[test]
-fn both_receivers_are_inside_at_once(rt: HostRuntime) -> Result<(), Fail> {
-    let alloc = rt.alloc();
+/// Whether both receivers came, and were inside at once, while the command of a line ran to its end.
+fn both_meet<R: Threads + Sync>(rt: &R, alloc: Global, line: &str) -> Result<bool, Fail> {
     let gate = MeetingGate {
         inside: AtomicU32::new(0),
         met: AtomicBool::new(false),
@@ -58,19 +57,18 @@ fn both_receivers_are_inside_at_once(rt: HostRuntime) -> Result<(), Fail> {
     let mut input = SteadySource::new(list_of(alloc, &ABC_STREAM)?, 50);
     let mut output = SteadySink::new(alloc, 2);
     let mut errors = SteadySink::new(alloc, 1);
-    let outcome = run_with(
-        &rt,
-        alloc,
-        &gate,
-        "fetch",
-        &mut input,
-        &mut output,
-        &mut errors,
-    )?;
-    assert_eq!(rt; outcome.end, End::Done);
-    assert!(rt; gate.met.load(Ordering::SeqCst));
-    assert!(rt; gate.first_came.load(Ordering::SeqCst));
-    assert!(rt; gate.second_came.load(Ordering::SeqCst));
+    let outcome = run_with(rt, alloc, &gate, line, &mut input, &mut output, &mut errors)?;
+    let both_came = gate.first_came.load(Ordering::SeqCst)
+        && gate.second_came.load(Ordering::SeqCst);
+    Ok(outcome.end == End::Done && both_came && gate.met.load(Ordering::SeqCst))
+}
+
+#[test]
+fn both_receivers_are_inside_at_once(rt: HostRuntime) -> Result<(), Fail> {
+    let alloc = rt.alloc();
+    for line in ["fetch", "relay --coded 0"] {
+        assert!(rt; both_meet(&rt, alloc, line)?, "{line}");
+    }
     Ok(())
 }
 

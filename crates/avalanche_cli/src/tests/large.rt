@@ -66,6 +66,28 @@ fn a_file_has_a_limit(rt: HostRuntime) -> Result<(), Fail> {
     Ok(())
 }
 
+// The largest file has 256 generations of 64 blocks of 1,024 bytes. Beside 107 bytes and the sums there are 1,088 packets of 1,164
+// bytes of each.
+#[test]
+fn the_largest_file_is_seeded_with_the_most_draws(rt: HostRuntime) -> Result<(), Fail> {
+    let mut input = Zeros { left: 16_777_216 };
+    let mut output = SteadySink::new(rt.alloc(), 65_536);
+    let mut errors = SteadySink::new(rt.alloc(), 1);
+    let outcome = run_with(
+        &rt,
+        rt.alloc(),
+        &NoGate,
+        "seed --checks 8 --coded 1024",
+        &mut input,
+        &mut output,
+        &mut errors,
+    )?;
+    assert_eq!(rt; outcome.end, End::Done);
+    let sums = 2 * 256 * 8 * 64;
+    assert_eq!(rt; output.bytes().len(), 107 + sums + 256 * 1088 * 1164);
+    Ok(())
+}
+
 // The manifest of a file of 3 bytes in one generation of two blocks of 4,096 bytes, and a ticket of no checks.
 const FRONT: [u8; 97] = [
     0x41, 0x56, 0x4C, 0x4E, 1, 1, 0, 0, 0, 0x2C, 0, 0, 0, 0, 0, 0, 0, 3, 0, 2, 0x10, 0, 0xba, 0x78,

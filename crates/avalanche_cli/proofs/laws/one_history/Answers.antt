@@ -1,4 +1,4 @@
-use Rattle.avalanche_cli.proofs.HeadlineLemmas.{one_history}
+use Rattle.avalanche_cli.proofs.HistoryLemmas.{one_history}
 use Rattle.avalanche_cli.proofs.laws.one_history.Goals as goal
 
 pub returns : goal.returns
