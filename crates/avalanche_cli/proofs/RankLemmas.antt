@@ -27,7 +27,7 @@ use Rattle.avalanche_cli.specs.Packets.{passing_in}
 use Rattle.avalanche_cli.specs.Trace.{IsLegalBasis, caller_count}
 use Rattle.avalanche_cli.proofs.PassingLemmas.{is_passing, passing_of}
 use Rattle.avalanche_cli.proofs.TraceLemmas.{given_here, is_caller}
-use Rattle.avalanche_cli.proofs.TrueLemmas.{InnovativeLaw, RecordedLaw, and_left, is_taken, is_within, kept_head, kept_more, kept_tail, of_records}
+use Rattle.avalanche_cli.proofs.TrueLemmas.{InnovativeLaw, RecordedLaw, and_left, and_right, is_taken, is_within, kept_head, kept_more, kept_tail, of_records}
 
 -- ---- the laws that are used
 
@@ -72,10 +72,6 @@ twice_head P test false x xs is here all = absurd cc
 twice_tail : (P : TaggedPacket → Type 0) (test : TaggedPacket → Bool) (c : Bool) (x : TaggedPacket) (xs : List TaggedPacket) → AllByRecursion P (filter test (cond c (x ∷ xs) xs)) → AllByRecursion P (filter test xs)
 twice_tail P test true x xs all = kept_tail P (test x) x (filter test xs) all
 twice_tail P test false x xs all = all
-
-and_right : (a b : Bool) → a && b ≡ true → b ≡ true
-and_right true b is = is
-and_right false b is = absurd cc
 
 module _ (Q : Packet → Type 0) (equations : Equations) (receivers generation : ℕ) (some : 0 < receivers) where
   abbrev Dealt : ℕ → List Packet → ℕ → Type 0

@@ -1,7 +1,8 @@
--- What a relay sends: each packet lies in the span of its front, they make a stream, and they keep truth.
-use Rattle.std.proofs.Common.{◌≡◌, ℕ, ◌+◌, ◌<◌, List, [], ◌∷◌, length, get_or, refl, sym, subst, arith}
+-- What a relay sends: each packet lies in the span of its front, they pass and make a stream, and they keep truth.
+use Rattle.std.proofs.Common.{◌≡◌, ℕ, ◌+◌, ◌*◌, ◌<◌, Bool, true, List, [], ◌∷◌, length, get_or, refl, sym, ap, subst, arith}
 use Rattle.std.specs.Prelude.{Some}
 use Rattle.std.specs.List.{All, AllByRecursion, filter, flat_map}
+use Rattle.std.proofs.Math.Nat.{mul_comm}
 use Rattle.std.proofs.lemmas.Bool.{eqb-true}
 use Rattle.std.proofs.lemmas.List.{get_or-map}
 use Rattle.std.proofs.lemmas.List.Elements.{All-append, All-cons, All-filter, All-from_recursion, All-head, All-map, All-nil, All-tail, All-take, All-weaker, recursion_from_All}
@@ -10,12 +11,14 @@ use Rattle.linear_spec.specs.declared.packet.Packet.{Packet}
 use Rattle.linear_spec.specs.declared.record.Drawn.{Drawn}
 use Rattle.linear_spec.specs.declared.record.Drawn.TheVariants.{Sent, Nothing}
 use Rattle.linear_spec.specs.Packet.{Fits, IsTrueTo, vector_of, vectors_of}
+use Rattle.linear_spec.specs.Passing.{AreEquations, Passes}
 use Rattle.linear_spec.specs.SequentialBasis.{packets_of}
 use Rattle.linear_spec.specs.Span.{InSpan}
 use Rattle.linear_spec.specs.Symbols.{IsVector}
 use Rattle.basis_core.specs.declared.trace.BasisTrace.{BasisTrace}
 use Rattle.basis_core.specs.Calls.{point_of_drawn}
 use Rattle.generation.specs.Shape.{Dimensions, generations_of, symbols_per_block}
+use Rattle.src_check.specs.Weights.{weights_of_checks}
 use Rattle.packet_wire.specs.Stream.{Contents, IsPacket, IsStream}
 use Rattle.recode.specs.Draws.{drawn_over, drawn_packet, numbers_of}
 use Rattle.shared_reception.specs.declared.sends.Sending.{Sending}
@@ -28,9 +31,9 @@ use Rattle.avalanche_cli.specs.Sends.{front_of, packet_of_send, packets_by, pack
 use Rattle.avalanche_cli.specs.Trace.{IsLegalRelay}
 use Rattle.avalanche_cli.specs.declared.trace.SendEntry.{SendEntry}
 use Rattle.avalanche_cli.specs.declared.trace.Trace.{Trace}
-use Rattle.avalanche_cli.proofs.PassingLemmas.{is_passing}
+use Rattle.avalanche_cli.proofs.PassingLemmas.{is_passing, passing_of as passes_where}
 use Rattle.avalanche_cli.proofs.TraceLemmas.{no_trace}
-use Rattle.avalanche_cli.proofs.TrueLemmas.{InnovativeLaw, RecordedLaw, and_left, kept_more, of_records}
+use Rattle.avalanche_cli.proofs.TrueLemmas.{InnovativeLaw, RecordedLaw, and_left, and_right, kept_more, of_records}
 
 -- ---- the laws that are used
 
@@ -41,6 +44,14 @@ DrawFitsLaw = (k s generation link q : ℕ) (key : List ℕ) (front : List Packe
 -- and lies in the span of its front
 abbrev pub DrawSpanLaw : Type 0
 DrawSpanLaw = (k s generation link q : ℕ) (key : List ℕ) (front : List Packet) → All (Fits k s) front → InSpan (k + s) (vectors_of front) (vector_of (drawn_packet k s generation key link q front))
+
+-- and passes where its front does
+abbrev pub DrawPassLaw : Type 0
+DrawPassLaw = (equations : Equations) (generation link q : ℕ) (key : List ℕ) (front : List Packet) → AreEquations equations → All (Fits equations.k equations.s) front → All (λ packet. packet.generation ≡ generation) front → All (Passes equations) front → Passes equations (drawn_packet equations.k equations.s generation key link q front)
+
+-- weights are vectors
+abbrev pub WeightsLaw : Type 0
+WeightsLaw = (key : List ℕ) (s checks : ℕ) → IsVector (checks * s) (weights_of_checks key s checks)
 
 -- and is true where its front is
 abbrev pub DrawTruthLaw : Type 0
@@ -66,6 +77,11 @@ of_passing P equations generation (first ∷ packets) all =
     kept_more (P generation) (is_passing equations generation first) first (filter (is_passing equations generation) packets)
     (λ is. subst (λ (m : ℕ). P m first) (eqb-true first.generation generation (and_left _ _ is)) all.0)
     (of_passing P equations generation packets all.1)
+
+-- what is kept by a test passes it
+all_kept : (test : Packet → Bool) (packets : List Packet) → AllByRecursion (λ p. test p ≡ true) (filter test packets)
+all_kept test [] = tt
+all_kept test (first ∷ packets) = kept_more (λ p. test p ≡ true) (test first) first (filter test packets) (λ is. is) (all_kept test packets)
 
 -- ---- a legal trace
 
@@ -133,9 +149,32 @@ module _ (recorded : RecordedLaw) (innovative : InnovativeLaw) (words : RelayWor
         (All-take (IsTrueTo s (blocks generation)) (point_of_drawn (drawn_over n)) (get_or (recorded_packets bases) generation []) solves.true_to)
         solves.count solves.vectors)
 
-    pub truly_relayed : DrawFitsLaw → DrawTruthLaw → IsTrulyRelayed words contents trace
-    truly_relayed fits truth = record {
+    are_equations : WeightsLaw → AreEquations (equations_of contents)
+    are_equations weights =
+        let checks = contents.ticket.checks in
+        let count : checks * generations_of d * k ≡ generations_of d * checks * k = ap (λ n. n * k) (mul_comm checks (generations_of d)) in
+        record {
+          weights = weights contents.ticket.key s checks;
+          sums = subst (λ (n : ℕ). IsVector n contents.ticket.sums) count stream.ticket.sums;
+        }
+
+    -- records pass, and are of their generation; so what is drawn over them passes
+    sent_pass : DrawPassLaw → WeightsLaw → All (Passes (equations_of contents)) (packets_sent d sending.key trace)
+    sent_pass passing weights = each_packet (Passes (equations_of contents)) (λ generation n q below.
+        let equations = equations_of contents in
+        let Kept : Packet → Type 0 = λ p. is_passing equations generation p ≡ true in
+        let front = front_of bases (send_of sending generation n q) in
+        let kept : All Kept front =
+        All-take Kept (point_of_drawn (drawn_over n)) (get_or (recorded_packets bases) generation [])
+        (at_records Kept generation below (All-from_recursion Kept (passing_of contents generation) (all_kept (is_passing equations generation) contents.packets))) in
+        passing equations generation sending.link q sending.key front (are_equations weights) (front_fits generation n q below)
+        (All-weaker Kept (λ (p : Packet). p.generation ≡ generation) (λ p is. eqb-true p.generation generation (and_left _ _ is)) front kept)
+        (All-weaker Kept (Passes equations) (λ p is. passes_where equations p (and_right _ _ is)) front kept))
+
+    pub truly_relayed : DrawFitsLaw → DrawPassLaw → WeightsLaw → DrawTruthLaw → IsTrulyRelayed words contents trace
+    truly_relayed fits passing weights truth = record {
       stream = record { manifest = stream.manifest; ticket = stream.ticket; packets = packets_are fits; spelled = refl };
+      pass = sent_pass passing weights;
       truth = sent_truth truth;
     }
 

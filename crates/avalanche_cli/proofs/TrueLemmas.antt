@@ -78,6 +78,10 @@ pub and_left : (a b : Bool) → a && b ≡ true → a ≡ true
 and_left true b is = refl
 and_left false b is = absurd cc
 
+pub and_right : (a b : Bool) → a && b ≡ true → b ≡ true
+and_right true b is = is
+and_right false b is = absurd cc
+
 -- ---- of packets that a receiver gets, those of a generation: they are kept by two tests
 
 abbrev pub is_taken : ℕ → ℕ → TaggedPacket → Bool

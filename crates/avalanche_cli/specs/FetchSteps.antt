@@ -2,7 +2,7 @@
 -- before, now: what a sink holds, where it tells that. Same: that the output is as it was. Unread, Unwritten, Unheld: that
 -- the counts of the input's faults, of the output's faults and of the output's wants rose. Sound: that the bytes which were
 -- read have no fault but that they end too early.
-use Rattle.std.specs.Prelude.{◌≡◌, ◌⊎◌, ℕ, true, false, List, Option, IfSome, Result, Ok, Err}
+use Rattle.std.specs.Prelude.{◌≡◌, ◌⊎◌, ℕ, List, Option, IfSome, Result, Ok, Err}
 use Rattle.std.specs.Io.KnownBytes.{Keeps}
 use Rattle.linear_spec.specs.List.{ListValue}
 use Rattle.packet_wire.specs.Stream.{Contents}

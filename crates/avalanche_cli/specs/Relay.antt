@@ -8,6 +8,7 @@ use Rattle.std.specs.List.{All}
 use Rattle.std.specs.Io.KnownBytes.{Appends, Keeps}
 use Rattle.linear_spec.specs.declared.packet.Packet.{Packet}
 use Rattle.linear_spec.specs.Packet.{IsTrueTo}
+use Rattle.linear_spec.specs.Passing.{Passes}
 use Rattle.linear_spec.specs.Solving.{Solves}
 use Rattle.swarm_io.specs.Moved.{AppendsPrefix}
 use Rattle.generation.specs.Shape.{Dimensions, generations_of, symbols_per_block}
@@ -20,6 +21,7 @@ use Rattle.avalanche_cli.specs.Delivery.{AppendsSome}
 use Rattle.avalanche_cli.specs.EmptyTrace.{IsEmptyTrace}
 use Rattle.avalanche_cli.specs.Fetch.{Holds, IsTooLong, IsUnfetchable, stream_limit}
 use Rattle.avalanche_cli.specs.Files.{recorded_packets}
+use Rattle.avalanche_cli.specs.Packets.{equations_of}
 use Rattle.avalanche_cli.specs.Sends.{packets_sent}
 use Rattle.avalanche_cli.specs.Trace.{IsLegalRelay}
 use Rattle.avalanche_cli.specs.declared.trace.Trace.{Trace}
@@ -55,9 +57,11 @@ AreRecordedTrueTo d bases blocks = (generation : ℕ) → generation < generatio
 abbrev pub ArePacketsTrueTo : Dimensions → List Packet → (ℕ → List (List ℕ)) → Type 0
 ArePacketsTrueTo d packets blocks = All (λ packet. IsTrueTo (symbols_per_block d) (blocks packet.generation) packet) packets
 
--- what a relay makes of a stream is a stream, and where all records are true to some blocks so are all packets sent
+-- what a relay makes of a stream is a stream; no check of its ticket refuses a packet sent; and where all records are true to
+-- some blocks so are all packets sent
 pub record IsTrulyRelayed (words : RelayWords) (contents : Contents) (trace : Trace) : Type 0 where
   pub stream : IsStream (stream_of_relay words contents trace) (contents_of_relay words contents trace)
+  pub pass : All (Passes (equations_of (contents_of_relay words contents trace))) (contents_of_relay words contents trace).packets
   pub truth : (blocks : ℕ → List (List ℕ)) → AreRecordedTrueTo contents.manifest.shape trace.bases.items blocks
       → ArePacketsTrueTo contents.manifest.shape (contents_of_relay words contents trace).packets blocks
 

@@ -98,8 +98,8 @@ pub fn run<R: Threads + Sync, G: Gate, I: Source, O: Sink, E: Sink>(
         → ¬ Rose (I.faults input.old) (I.faults input.new) → ¬ Rose (O.faults output.old) (O.faults output.new)
         → ((result.end ≡ End.Done) × Appends (O.contents output.old) (O.contents output.new) file) ⊎ (result.end ≡ End.Memory))) }
 
-    // A stream is relayed, unless a fault came or memory was wanted. What was relayed is a stream, and where all its records are
-    // true to some blocks, so are all packets sent.
+    // A stream is relayed, unless a fault came or memory was wanted. What was relayed is a stream, whose packets pass the checks
+    // of its ticket, and where all records are true to some blocks, so are all packets sent.
     ensures relayed { IfRelay (command_of words.now) (λ said. IfSome (I.remaining input.old) (λ bytes. (contents : Contents)
         → IsFetchable bytes contents
         → ¬ Rose (I.faults input.old) (I.faults input.new) → ¬ Rose (O.faults output.old) (O.faults output.new)

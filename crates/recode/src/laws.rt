@@ -1,7 +1,9 @@
 //! The laws of draws: what a packet drawn has of the packets of its front.
 ghost use Rattle.std.specs.Prelude.{◌≡◌, ◌≤◌, ◌+◌, ℕ, List, length};
 ghost use Rattle.std.specs.List.{All};
+ghost use Rattle.linear_spec.specs.declared.equations.Equations.{Equations};
 ghost use Rattle.linear_spec.specs.declared.packet.Packet.{Packet};
+ghost use Rattle.linear_spec.specs.Passing.{AreEquations, Passes};
 ghost use Rattle.linear_spec.specs.Symbols.{IsVector};
 ghost use Rattle.linear_spec.specs.Packet.{Fits, IsTrueTo, vector_of, vectors_of};
 ghost use Rattle.linear_spec.specs.Span.{InSpan};
@@ -18,6 +20,15 @@ pub fn spans()
 {
     gf16::laws::field();
     linear_spec::laws::combinations();
+}
+
+/// No check refuses a packet drawn over a front of one generation whose packets all pass.
+pub fn passing()
+    ensures { (equations : Equations) (generation link q : ℕ) (key : List ℕ) (front : List Packet) → AreEquations equations
+        → All (Fits equations.k equations.s) front → All (λ packet. packet.generation ≡ generation) front
+        → All (Passes equations) front → Passes equations (drawn_packet equations.k equations.s generation key link q front) }
+{
+    linear_spec::laws::checks();
 }
 
 /// Drawing keeps truth, and pollution breaks it: over a front whose packets are true to some blocks the packet drawn is true to

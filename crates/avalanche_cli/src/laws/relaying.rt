@@ -9,8 +9,8 @@ ghost use Rattle.avalanche_cli.specs.Packets.{AreTrueTo};
 ghost use Rattle.avalanche_cli.specs.Relay.{IsTrulyRelayed, contents_of_relay, sending_of};
 ghost use Rattle.avalanche_cli.specs.Trace.{IsLegalRelay};
 
-/// What `relay` makes of a stream, whatever the schedule was: each packet sent lies in the span of its front, it is a stream, and
-/// where all records are true to some blocks, so are all packets sent. So where all packets that pass are true to some blocks,
+/// What `relay` makes of a stream, whatever the schedule was: each packet sent lies in the span of its front and passes all checks of
+/// the ticket, it is a stream, and where all records are true to some blocks, so are all packets sent. So where all packets that pass are true to some blocks,
 /// those of the relayed stream are true to them too, through every relay.
 pub fn relayed_streams()
     ensures lie { (bytes : List ℕ) (words : RelayWords) (contents : Contents) (trace : Trace) → IsStream bytes contents
@@ -24,6 +24,8 @@ pub fn relayed_streams()
 {
     basis_core::laws::callers();
     basis_core::laws::records();
+    recode::laws::passing();
     recode::laws::spans();
     recode::laws::truth();
+    src_check::laws::weights_and_sums();
 }

@@ -7,7 +7,8 @@ returns-clause-lie c = λ bytes words contents trace stream legal.
 
 pub returns-clause-truly : goal.returns-clause-truly
 returns-clause-truly c = λ bytes words contents trace stream legal.
-    truly_relayed c.callers.ensures.recorded c.records.ensures.innovative words contents trace legal bytes stream c.spans.ensures.fits c.truth.ensures.drawn
+    truly_relayed c.callers.ensures.recorded c.records.ensures.innovative words contents trace legal bytes stream c.spans.ensures.fits
+    c.passing.ensures c.weights_and_sums.ensures.weights c.truth.ensures.drawn
 
 pub returns-clause-chain : goal.returns-clause-chain
 returns-clause-chain c = λ bytes words contents trace blocks stream legal are.
