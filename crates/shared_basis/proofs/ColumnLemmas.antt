@@ -1,6 +1,5 @@
 -- Columns marked as missing until a row has its pivot there, and the pivots that the regions of a desk name.
-use Rattle.std.proofs.Common.{◌≡◌, ⊎_elim, ◌↔◌, ℕ, zero, suc, ◌+◌, ◌<◌, Bool, true, false, not, eqb, ◌||◌, List, [], ◌∷◌, ◌++◌, length, get_or, set, take, Option, Some, None, refl, sym, ap, ◌∙◌, subst, arith}
-use Rattle.std.specs.Prelude.{IsSome, unwrap_or}
+use Rattle.std.proofs.Common.{◌≡◌, ⊎_elim, ◌↔◌, ℕ, zero, suc, ◌+◌, ◌<◌, Bool, true, false, not, eqb, ◌||◌, List, [], ◌∷◌, ◌++◌, length, get_or, set, take, Some, refl, sym, ap, ◌∙◌, subst, arith}
 use Rattle.std.specs.List.{Contains, filter, list_any, range_with_len}
 use Rattle.std.proofs.lemmas.Bool.{cases_eq, eq-eqb, ne_eqb, true≢false}
 use Rattle.std.proofs.lemmas.List.{get_or-map, get_or-set_other, get_or-set_same, length-set}
@@ -13,10 +12,11 @@ use Rattle.table_rows.specs.declared.view.Front.{Front}
 use Rattle.table_rows.specs.declared.view.Parameters.{Parameters}
 use Rattle.table_rows.specs.Good.{HasRecord, IsNext, row_at}
 use Rattle.table_rows.specs.Layout.{pivot_in}
-use Rattle.table_rows.specs.Views.{IsReadWhole, word_read, words_of_row, words_read}
+use Rattle.table_rows.specs.Views.{IsReadWhole, word_read, words_read}
 use Rattle.shared_basis.specs.declared.desk.Desk.{Desk}
 use Rattle.shared_basis.specs.Desks.{IsDesk}
 use Rattle.shared_basis.specs.Regions.{regions_seen, rows_seen}
+use Rattle.shared_basis.proofs.FillLemmas.{word_there}
 
 -- whether no row has its pivot at the column
 abbrev pub is_missing : List Packet → ℕ → Bool
@@ -95,20 +95,10 @@ marked_more k rows row flags marked = record {
       (cases_eq (pivot_of row) column);
 }
 
--- a word that there is
-some_is : (word : Option ℕ) → IsSome word → word ≡ Some (unwrap_or word 0)
-some_is (Some word) some = refl
-some_is None some = absurd (true≢false (sym some))
-
 -- where a front is read whole, the second word of a region is its pivot
 pub pivot_read : (front : Front) (n : ℕ) → IsReadWhole front → n < length front.read → 1 < length (get_or front.read n [])
     → word_read front.read n 1 ≡ Some (pivot_in (get_or (words_read front) n []))
-pivot_read front n whole within wide =
-    let row : List (Option ℕ) = get_or front.read n [] in
-    some_is (get_or row 1 None) (whole n [] within 1 None wide)
-    ∙ ap (λ (word : ℕ). Some word) (sym (ap (λ (region : List ℕ). pivot_in region)
-    (get_or-map words_of_row front.read n [] [] within)
-    ∙ get_or-map (λ (word : Option ℕ). unwrap_or word 0) row 1 None 0 wide))
+pivot_read front n whole within wide = word_there front n 1 whole within wide
 
 module _ (has : (p : Parameters) (before : List (List ℕ)) (region : List ℕ) → IsNext p before region
     → HasRecord p before region)

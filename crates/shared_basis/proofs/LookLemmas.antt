@@ -7,6 +7,7 @@ use Rattle.std.proofs.lemmas.List.Elements.{All-push}
 use Rattle.std.proofs.lemmas.Bool.{false≢true}
 use Rattle.table_rows.specs.declared.view.Front.{Front}
 use Rattle.linear_spec.specs.declared.packet.Packet.{Packet}
+use Rattle.linear_spec.specs.List.{ListValue}
 use Rattle.table_rows.specs.declared.view.CallerView.{CallerView}
 use Rattle.table_rows.specs.declared.view.Parameters.{Parameters}
 use Rattle.table_rows.specs.Steps.{IsCaller, IsSound, after_found, after_reads}
@@ -173,3 +174,24 @@ module _ (filled : Filled) (v w : CallerView) (n : ℕ) (words : List ℕ) (whol
   pub same_view : (width : ℕ) → length words ≡ length (get_or v.sight.front.read n []) → length words ≡ width → w ≡ after_reads v n words
       → w ≡ record v { reads = v.reads + width }
   same_view width long wide is = is ∙ (λ i. record v { sight = record v.sight { front = same_front long i }; reads = v.reads + wide i })
+
+-- a desk is one still when words were read again, into its words or its row
+pub reread_desk : (d e : Desk) (reads : ℕ) → IsDesk d → IsSound e.seat.view → e.seat.view ≡ record d.seat.view { reads = reads }
+    → e.draft ≡ d.draft → e.known ≡ d.known → vec_len e.words ≡ vec_len d.words → e.left ≡ d.left
+    → HasLengths d.seat.view.sight.parameters e.row → IsDesk e
+reread_desk d e reads desk sound is draft known words left row =
+    let same : e.seat.view.sight.parameters ≡ d.seat.view.sight.parameters = ap (λ (u : CallerView). u.sight.parameters) is in
+    let same_k : e.seat.view.sight.parameters.k ≡ d.seat.view.sight.parameters.k = ap (λ (p : Parameters). p.k) same in
+    let enough : d.seat.view.sight.parameters.k ≤ length d.known.items + d.known.spare = desk.room in
+    let items : length e.known.items ≡ length d.known.items = ap (λ (l : ListValue ℕ). length l.items) known in
+    let spare : e.known.spare ≡ d.known.spare = ap (λ (l : ListValue ℕ). l.spare) known in record {
+      sound = sound;
+      whole = subst (λ (u : CallerView). IsReadWhole u.sight.front) (sym is) desk.whole;
+      draft = draft ∙ (desk.draft ∙ sym (ap (λ (u : CallerView). u.draft) is));
+      known = ap (λ (l : ListValue ℕ). l.items) known ∙ (desk.known ∙ sym (ap (λ (u : CallerView). u.sight.front.known) is));
+      room = omega arith;
+      words = words ∙ (desk.words ∙ sym (ap width_of same));
+      narrow = subst (λ (p : Parameters). width_of p < 2 ^ 32) (sym same) desk.narrow;
+      left = subst (λ (p : Parameters). HasLengths p e.left) (sym same) (subst (λ (x : Packet). HasLengths d.seat.view.sight.parameters x) (sym left) desk.left);
+      row = subst (λ (p : Parameters). HasLengths p e.row) (sym same) row;
+    }

@@ -5,9 +5,10 @@ use Rattle.std.specs.Prelude.{Option, Some, cond, vec_len}
 use Rattle.std.specs.List.{All}
 use Rattle.std.proofs.Common.{eq-eqb}
 use Rattle.std.proofs.Math.Nat.{add-mul}
-use Rattle.std.proofs.lemmas.List.{append-nil, append_assoc, length-append, length-map, length-replicate, map_push, take_more}
+use Rattle.std.proofs.lemmas.List.{append-nil, append_assoc, get_or_append_left, length-append, length-map, length-replicate, map_push, take_more}
 use Rattle.std.proofs.lemmas.List.Elements.{All-append, All-nil, All-push}
 use Rattle.std.proofs.Math.Seq.{get_or-append_seam, set-append_seam, take-append_seam}
+use Rattle.gf16.specs.Field.{IsField, sum_of}
 use Rattle.gf16.specs.Sums.{plus_scaled}
 use Rattle.linear_spec.specs.declared.packet.Packet.{Packet}
 use Rattle.linear_spec.specs.declared.record.Record.{Record}
@@ -26,7 +27,7 @@ use Rattle.table_rows.specs.Steps.{IsSound, after_found, after_reads, after_win}
 use Rattle.table_rows.specs.Views.{IsReadWhole, IsWhole, blank_row, row_with, width_of, with_region, with_words, words_of_row}
 use Rattle.shared_basis.specs.declared.desk.Desk.{Desk}
 use Rattle.shared_basis.specs.Desks.{HasLengths, IsDesk}
-use Rattle.shared_basis.specs.Regions.{HasFound, HasSettled, record_at, records_seen, regions_seen}
+use Rattle.shared_basis.specs.Regions.{HasFound, HasReread, HasSettled, record_at, records_seen, regions_seen}
 
 -- the offers of a number in two lists of regions, one after the other
 offers_append : (number n : ℕ) (xs ys : List (List ℕ)) → offers_from number n (xs ++ ys) ≡ offers_from number n xs ++ offers_from number (n + length xs) ys
@@ -371,3 +372,24 @@ lost_row filling has d u w written region words generation k s row desk sound lo
     let count : length v.sight.front.read ≡ length d.known.items = desk.sound.shaped.sight.rows ∙ sym (ap length desk.known) in
     let is = is_found filling v u w written (length d.known.items) region words desk.whole count long found read in
     (is, row_read v.sight.parameters (regions_seen v) words (found_record has v w region words sound is) generation k s row row_is of_k of_s)
+
+-- a vector with 0 times another added is itself
+none_added : IsField → (u v : List ℕ) → plus_scaled u 0 v ≡ u
+none_added field [] v = refl
+none_added field (x ∷ u) [] = refl
+none_added field (x ∷ u) (y ∷ v) = λ i. (ap (sum_of x) (field.zero_product y) ∙ field.sum_zero x) i ∷ none_added field u v i
+
+-- a row at whose pivot the packet has a 0 takes nothing from it
+pub nothing_left_there : IsField → (left row : Packet) (pivot : ℕ) → pivot < length left.coeffs → pivot ≡ pivot_of row → get_or left.coeffs pivot 0 ≡ 0
+    → vector_of left ≡ remainder_of (row ∷ []) (vector_of left)
+nothing_left_there field left row pivot below is none =
+    let here : get_or (vector_of left) (pivot_of row) 0 ≡ 0 = ap (λ n. get_or (vector_of left) n 0) (sym is)
+    ∙ (get_or_append_left left.coeffs left.payload 0 pivot below ∙ none) in
+    sym (ap (λ factor. plus_scaled (vector_of left) factor (vector_of row)) here ∙ none_added field (vector_of left) (vector_of row))
+
+-- words that were read again, and then more
+pub reread_on : (first more all : ℕ) (v u w : CallerView) → first + more ≡ all → HasReread first v u → HasReread more u w → HasReread all v w
+reread_on first more all v u w sum before then = record {
+  view = then.view ∙ ap (λ (x : CallerView). record x { reads = w.reads }) before.view;
+  reads = (let a = before.reads in let b = then.reads in omega arith);
+}

@@ -51,6 +51,11 @@ pub record HasLookedOn (k : ℕ) (v w : CallerView) : Type 0 where
   pub reads : w.reads ≡ v.reads + length more * width_of v.sight.parameters
   pub ended : (length (regions_seen w) ≡ k) ⊎ ((v.empty_looks < w.empty_looks) × (w.last_empty ≡ length (regions_seen w)))
 
+-- the same view, but that so many words at most were read
+pub record HasReread (most : ℕ) (v w : CallerView) : Type 0 where
+  pub view : w ≡ record v { reads = w.reads }
+  pub reads : w.reads ≤ v.reads + most
+
 -- a passing packet, offered as this call, has this reply: the caller found some regions first, all of other callers; the reply
 -- is the packet's case at what was then seen, and an innovative one is the next record
 pub record HasSettled (call : ℕ) (packet : Packet) (v w : CallerView) (reply : Reply) : Type 0 where

@@ -29,7 +29,7 @@ pub(crate) fn mark_missing(table: &BasisTable, desk: &mut Desk, out: &mut [bool]
 }
 
 /// Reads again at which column the row of record `n` has its pivot.
-fn pivot_again(table: &BasisTable, desk: &mut Desk, n: usize) -> usize
+pub(crate) fn pivot_again(table: &BasisTable, desk: &mut Desk, n: usize) -> usize
     requires desk { IsDesk desk.old }
     requires seat { IsCallerAt table.now desk.old.seat }
     requires known { n < length desk.old.known.items }
@@ -38,6 +38,7 @@ fn pivot_again(table: &BasisTable, desk: &mut Desk, n: usize) -> usize
     ensures seat { IsCallerAt table.now desk.new.seat }
     ensures view { desk.new.seat.view ≡ record desk.old.seat.view { reads = desk.old.seat.view.reads + 1 } }
     ensures known { desk.new.known ≡ desk.old.known }
+    ensures left { desk.new.left ≡ desk.old.left }
     ensures pivot { (row : Packet) → result ≡ pivot_of (slice_index_or (rows_seen desk.old.seat.view) n row) }
     ensures below { result < table.now.parameters.k }
 {

@@ -1,8 +1,8 @@
-//! Whole regions, read and written word after word.
-ghost use Rattle.std.specs.Prelude.{◌≡◌, ◌^◌, ◌<◌, ℕ, List, Some, [], length, map, slice_index, slice_index_or};
+//! Regions, read and written word after word.
+ghost use Rattle.std.specs.Prelude.{◌≡◌, ◌+◌, ◌^◌, ◌<◌, ℕ, List, Some, [], drop, length, map, slice_index, slice_index_or};
 ghost use Rattle.table_rows.specs.Seats.{IsCallerAt};
 ghost use Rattle.table_rows.specs.Steps.{IsSound, after_reads};
-ghost use Rattle.table_rows.specs.Views.{width_of};
+ghost use Rattle.table_rows.specs.Views.{IsReadWhole, width_of, words_read};
 
 use table_rows::{BasisTable, CallerSeat};
 
@@ -27,6 +27,33 @@ pub(crate) fn read_region(
     seat.is_caller();
     for place in 0..words.len() {
         words[place] = table.read(seat, n, region, place as u32);
+    }
+}
+
+/// Reads the words of a region from a place on, where all known regions were read before.
+pub(crate) fn read_rest(
+    table: &BasisTable,
+    seat: &mut CallerSeat,
+    n: u16,
+    region: u64,
+    from: u32,
+    words: &mut [u64],
+)
+    requires seat { IsCallerAt table.now seat.old }
+    requires known { (n < length seat.old.view.sight.front.known) × (region ≡ slice_index seat.old.view.sight.front.known n) }
+    requires words { from + length words.old ≡ width_of table.now.parameters }
+    requires narrow { width_of table.now.parameters < 2 ^ 32 }
+    requires whole { IsReadWhole seat.old.view.sight.front }
+    requires sound { IsSound seat.old.view }
+    ensures seat { IsCallerAt table.now seat.new }
+    ensures view { seat.new.view ≡ record seat.old.view { reads = seat.old.view.reads + length words.old } }
+    ensures words { words.new ≡ drop from (slice_index_or (words_read seat.old.view.sight.front) n []) }
+    ensures sound { IsSound seat.new.view }
+{
+    table_rows::laws::reading();
+    seat.is_caller();
+    for place in 0..words.len() {
+        words[place] = table.read(seat, n, region, from + place as u32);
     }
 }
 

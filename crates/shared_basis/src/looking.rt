@@ -1,6 +1,7 @@
-//! Looks: the directory read on, and each region that is found read whole.
+//! Looks: the directory read on, and each region that is found read whole. And regions and rows that are read again.
 ghost use Rattle.std.specs.Prelude.{◌≡◌, ◌<◌, ◌≤◌, ◌+◌, ◌^◌, [], ◌∷◌, ◌++◌, length, slice_index_or, vec_len};
 ghost use Rattle.std.specs.Bool.{OnTrue, OnFalse};
+ghost use Rattle.table_rows.specs.Layout.{row_in, words_for};
 ghost use Rattle.table_rows.specs.Seats.{IsCallerAt};
 ghost use Rattle.table_rows.specs.Steps.{IsSound, after_empty, after_reads};
 ghost use Rattle.table_rows.specs.Views.{width_of};
@@ -8,7 +9,8 @@ ghost use Rattle.shared_basis.specs.Desks.{IsDesk};
 ghost use Rattle.shared_basis.specs.Regions.{HasFound, HasLookedOn, regions_seen};
 
 use crate::desk::Desk;
-use crate::drafts::read_region;
+use crate::drafts::{read_region, read_rest};
+use crate::regions::take_symbols;
 use table_rows::BasisTable;
 
 /// Takes in a region that a step has just found, and reads it: its words are the desk's afterwards.
@@ -96,4 +98,28 @@ pub(crate) fn read_again(table: &BasisTable, desk: &mut Desk, n: usize)
         region,
         desk.words.as_mut_slice(),
     );
+}
+
+/// Reads the row of a region again that was read before: it is the desk's row afterwards, but for the generation, which stays.
+pub(crate) fn row_again(table: &BasisTable, desk: &mut Desk, n: usize)
+    requires desk { IsDesk desk.old }
+    requires seat { IsCallerAt table.now desk.old.seat }
+    requires known { n < length desk.old.known.items }
+    requires few { table.now.parameters.k ≤ 64 }
+    ensures desk { IsDesk desk.new }
+    ensures seat { IsCallerAt table.now desk.new.seat }
+    ensures view { desk.new.seat.view ≡ record desk.old.seat.view {
+      reads = desk.old.seat.view.reads + (words_for table.now.parameters.k + words_for table.now.parameters.s);
+    } }
+    ensures row { desk.new.row ≡ row_in desk.old.row.generation (length desk.old.row.coeffs) (length desk.old.row.payload)
+        (slice_index_or (regions_seen desk.old.seat.view) n []) }
+    ensures known { desk.new.known ≡ desk.old.known }
+    ensures left { desk.new.left ≡ desk.old.left }
+{
+    let region = desk.known.as_slice()[n];
+    // behind the first two words, packet and row take as many words each
+    let start = desk.words.len() / 2 + 1;
+    let words = &mut desk.words.as_mut_slice()[start..];
+    read_rest(table, &mut desk.seat, n as u16, region, start as u32, words);
+    take_symbols(words, &mut desk.row);
 }

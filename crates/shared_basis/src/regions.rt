@@ -71,12 +71,13 @@ pub(crate) fn take_row(words: &[u64], out: &mut Packet)
     take_symbols(&words[2 + half..], out);
 }
 
-/// Takes coefficients and payload out of words.
-fn take_symbols(words: &[u64], out: &mut Packet)
+/// Takes coefficients and payload out of words. The generation of `out` stays.
+pub(crate) fn take_symbols(words: &[u64], out: &mut Packet)
     requires { words_for (length out.old.coeffs) + words_for (length out.old.payload) ≤ length words.now }
     ensures coeffs { out.new.coeffs ≡ unpacked_of (length out.old.coeffs) words.now }
     ensures payload { out.new.payload ≡ unpacked_of (length out.old.payload) (drop (words_for (length out.old.coeffs)) words.now) }
     ensures generation { out.new.generation ≡ out.old.generation }
+    ensures lengths { (length out.new.coeffs ≡ length out.old.coeffs) × (length out.new.payload ≡ length out.old.payload) }
 {
     let of_coeffs = words_of(out.coeffs.len());
     unpack_all(words, out.coeffs.as_mut_slice());

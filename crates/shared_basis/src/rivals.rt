@@ -1,5 +1,5 @@
 //! One offer at the words: the packet reduced by the rows that were seen, and tried until it is refused or recorded.
-ghost use Rattle.std.specs.Prelude.{◌≡◌, ◌≢◌, ◌⊎◌, ◌<◌, ◌+◌, ◌*◌, ◌^◌, ℕ, List, Some, [], ◌∷◌, length, map, replicate, slice_index, slice_index_or, vec_len, IfSome, IfNone};
+ghost use Rattle.std.specs.Prelude.{◌≡◌, ◌≢◌, ◌⊎◌, ◌<◌, ◌≤◌, ◌+◌, ◌*◌, ◌^◌, ℕ, List, Some, [], ◌∷◌, length, map, replicate, slice_index, slice_index_or, vec_len, IfSome, IfNone};
 ghost use Rattle.gf16.specs.Field.{product_of};
 ghost use Rattle.gf16.specs.Sums.{scaled};
 ghost use Rattle.linear_spec.specs.declared.packet.Packet.{Packet as packet_type};
@@ -16,11 +16,12 @@ ghost use Rattle.table_rows.specs.Views.{IsReadWhole, width_of};
 ghost use Rattle.shared_basis.specs.Bases.{AreParameters};
 ghost use Rattle.shared_basis.specs.Desks.{HasLengths, IsDesk, IsLeftOf};
 ghost use Rattle.shared_basis.specs.Passes.{IsFor};
-ghost use Rattle.shared_basis.specs.Regions.{HasFound, HasSettled, packets_seen, record_at, regions_seen, rows_seen};
+ghost use Rattle.shared_basis.specs.Regions.{HasFound, HasReread, HasSettled, packets_seen, record_at, regions_seen, rows_seen};
 
+use crate::columns::pivot_again;
 use crate::desk::Desk;
 use crate::drafts::write_draft;
-use crate::looking::{learn, read_again};
+use crate::looking::{learn, row_again};
 use crate::regions::{lay_out, take_row};
 use basis_core::reduction::{inverse_of_first, is_zero, place_of_first, reduce_by, scale};
 use gf16::Gf;
@@ -44,10 +45,8 @@ pub(crate) fn settle(
     requires packet { IsFor table.now.parameters packet.now × Passes table.now.parameters.equations.value packet.now }
     ensures desk { IsDesk desk.new }
     ensures seat { IsCallerAt table.now desk.new.seat }
-    ensures view { HasSettled call packet.now (record desk.old.seat.view {
-      reads = desk.old.seat.view.reads
-          + length desk.old.known.items * width_of table.now.parameters;
-    }) desk.new.seat.view result }
+    ensures view { (reads : ℕ) × (reads ≤ desk.old.seat.view.reads + length desk.old.known.items * width_of table.now.parameters)
+        × HasSettled call packet.now (record desk.old.seat.view { reads = reads }) desk.new.seat.view result }
 {
     copy_symbols(packet, &mut desk.left);
     reduce_by_seen(table, desk);
@@ -69,17 +68,14 @@ fn copy_symbols(packet: &Packet, out: &mut Packet)
         .copy_from_slice(packet.payload.as_slice());
 }
 
-/// Reduces what is left by the rows that were seen, each of which is read again.
+/// Reduces what is left by the rows that were seen.
 fn reduce_by_seen(table: &BasisTable, desk: &mut Desk)
     requires parameters { AreParameters table.now.parameters }
     requires desk { IsDesk desk.old }
     requires seat { IsCallerAt table.now desk.old.seat }
     ensures desk { IsDesk desk.new }
     ensures seat { IsCallerAt table.now desk.new.seat }
-    ensures view { desk.new.seat.view ≡ record desk.old.seat.view {
-      reads = desk.old.seat.view.reads
-          + length desk.old.known.items * width_of table.now.parameters;
-    } }
+    ensures view { HasReread (length desk.old.known.items * width_of table.now.parameters) desk.old.seat.view desk.new.seat.view }
     ensures left { vector_of desk.new.left ≡ remainder_of (rows_seen desk.old.seat.view) (vector_of desk.old.left) }
     ensures known { desk.new.known ≡ desk.old.known }
 {
@@ -89,7 +85,7 @@ fn reduce_by_seen(table: &BasisTable, desk: &mut Desk)
     }
 }
 
-/// Reads row `n`, and reduces what is left by it.
+/// Reduces what is left by row `n`. Where nothing is left at its pivot, that alone is read of it.
 fn reduce_by_row(table: &BasisTable, desk: &mut Desk, n: usize)
     requires parameters { AreParameters table.now.parameters }
     requires desk { IsDesk desk.old }
@@ -97,13 +93,17 @@ fn reduce_by_row(table: &BasisTable, desk: &mut Desk, n: usize)
     requires known { n < length desk.old.known.items }
     ensures desk { IsDesk desk.new }
     ensures seat { IsCallerAt table.now desk.new.seat }
-    ensures view { desk.new.seat.view ≡ record desk.old.seat.view { reads = desk.old.seat.view.reads + width_of table.now.parameters } }
+    ensures view { HasReread (width_of table.now.parameters) desk.old.seat.view desk.new.seat.view }
     ensures left { (row : packet_type) → vector_of desk.new.left ≡ remainder_of (slice_index_or (rows_seen desk.old.seat.view) n row ∷ []) (vector_of desk.old.left) }
     ensures known { desk.new.known ≡ desk.old.known }
 {
+    gf16::laws::field();
     table_rows::laws::records();
-    read_again(table, desk, n);
-    take_row(desk.words.as_slice(), &mut desk.row);
+    let pivot = pivot_again(table, desk, n);
+    if desk.left.coeffs.as_slice()[pivot] == 0 {
+        return;
+    }
+    row_again(table, desk, n);
     reduce_by(&mut desk.left, &desk.row);
 }
 

@@ -4,27 +4,21 @@ use Rattle.std.proofs.lemmas.List.{length-map}
 use Rattle.linear_spec.specs.declared.packet.Packet.{Packet}
 use Rattle.linear_spec.specs.Packet.{vector_of}
 use Rattle.linear_spec.specs.Rows.{remainder_of}
-use Rattle.table_rows.specs.declared.view.CallerView.{CallerView}
 use Rattle.table_rows.specs.Good.{row_at}
 use Rattle.table_rows.specs.Views.{width_of}
 use Rattle.shared_basis.specs.Regions.{regions_seen, rows_seen}
-use Rattle.shared_basis.proofs.RivalLemmas.{known_count, left_next}
+use Rattle.shared_basis.proofs.RivalLemmas.{known_count, left_next, reread_on}
 use Rattle.shared_basis.proofs.rivals.reduce_by_seen.Goals as goal
 
--- no row more is read at first
-none_read : (reads width : ℕ) → reads ≡ reads + 0 * width
-none_read reads width = omega arith
-
 -- a row more is read
-one_read : (reads n width : ℕ) → reads + n * width + width ≡ reads + (n + 1) * width
-one_read reads n width = let more = add-mul n 1 width in omega arith
+one_read : (n width : ℕ) → n * width + width ≡ (n + 1) * width
+one_read n width = let more = add-mul n 1 width in omega arith
 
 pub loop-n-init : goal.loop-n-init
 loop-n-init c = record {
   desk = c.requires.desk;
   seat = c.requires.seat;
-  view = (let v : CallerView = c.args.desk.now.seat.view in
-      ap (λ (n : ℕ). record v { reads = n }) (none_read v.reads (width_of c.args.table.now.parameters)));
+  view = record { view = refl; reads = omega arith };
   left = refl;
   known = refl;
 }
@@ -37,12 +31,12 @@ loop-n-preserved c =
     let before = c.loop-n.invariant in
     let count : length (rows_seen d.seat.view) ≡ length d.known.items =
     length-map (regions_seen d.seat.view) (row_at d.seat.view.sight.parameters) ∙ sym (known_count d c.requires.desk) in
-    let seen : rows_seen e.seat.view ≡ rows_seen d.seat.view = ap rows_seen before.view in
+    let seen : rows_seen e.seat.view ≡ rows_seen d.seat.view = ap rows_seen before.view.view in
     record {
       desk = c.reduce_by_row.ensures.desk;
       seat = c.reduce_by_row.ensures.seat;
-      view = c.reduce_by_row.ensures.view ∙ (ap (λ (v : CallerView). record v { reads = v.reads + width }) before.view
-          ∙ ap (λ (n : ℕ). record d.seat.view { reads = n }) (one_read d.seat.view.reads c.loop-n.n width));
+      view = reread_on (c.loop-n.n * width) width ((c.loop-n.n + 1) * width) d.seat.view e.seat.view c.reduce_by_row.new.desk.seat.view (one_read c.loop-n.n width)
+          before.view c.reduce_by_row.ensures.view;
       left = left_next c.reduction.ensures.last (rows_seen d.seat.view) c.loop-n.n (vector_of d.left) (vector_of e.left) (vector_of c.reduce_by_row.new.desk.left)
           (omega arith) before.left
           (λ row. subst (λ (rows : List Packet). vector_of c.reduce_by_row.new.desk.left ≡ remainder_of (get_or rows c.loop-n.n row ∷ []) (vector_of e.left))

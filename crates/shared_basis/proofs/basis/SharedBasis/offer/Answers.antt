@@ -40,7 +40,7 @@ invariant_of-pass c =
     let p = c.pass.inside in
     let offered = map (λ packet. packet.value) p.offered.items in
     let laws : Laws = record { fit = c.records.ensures.fit; pass = c.records.ensures.pass; fresh = c.records.ensures.fresh; stand = c.records.ensures.stand } in
-    let settled = c.settle-reply.ensures.view in
+    let settled = c.settle-reply.ensures.view.2 in
     let some : 0 < p.spare = let room = c.requires.room in let is = ap (λ
     (q : PassValue). q.spare) c.pass.view_is in omega arith in
     pass_called p.desk c.settle-reply.new.desk p.founder p.number p.calls c.put.new.self offered _ p.offered.spare p.spare c.put-2.new.self.spare _ c.args.packet.now
@@ -56,7 +56,7 @@ invariant_of-pass c =
 
 pub returns-clause-prefix : goal.returns-clause-prefix
 returns-clause-prefix c =
-    let settled = c.settle-reply.ensures.view in
+    let settled = c.settle-reply.ensures.view.2 in
     sees_before _ _ _ c.pass.view_is (record {
       table = at_table c;
       parameters = settled.parameters;
@@ -79,13 +79,13 @@ returns-clause-answered c =
     let p = c.pass.inside in
     subst (λ (q : Parameters). IsAnsweredOver q.equations.value (records_seen c.settle-reply.new.desk.seat.view)
     (KeptOffer c.args.tag c.args.packet.now c.settle-reply.result)) (same c)
-    (offer_answered p.desk c.settle-reply.new.desk p.number c.len-call.result c.args.tag _ c.args.packet.now c.settle-reply.result c.settle-reply.ensures.view
+    (offer_answered p.desk c.settle-reply.new.desk p.number c.len-call.result c.args.tag _ c.args.packet.now c.settle-reply.result c.settle-reply.ensures.view.2
     c.pass.invariant.parameters (passes c))
 
 pub returns-clause-front : goal.returns-clause-front
 returns-clause-front c =
     let p = c.pass.inside in
-    let settled = c.settle-reply.ensures.view in
+    let settled = c.settle-reply.ensures.view.2 in
     let number : p.desk.seat.view.number ≡ c.args.pass.now.number = sym c.pass.invariant.number_is
     ∙ ap (λ (q : PassValue). q.number) c.pass.view_is in
     let count : c.len-call.result ≡ length c.args.pass.now.calls = call_count c
@@ -99,19 +99,16 @@ returns-clause-front c =
 pub returns-clause-reads : goal.returns-clause-reads
 returns-clause-reads c =
     let p = c.pass.inside in
-    let settled = c.settle-reply.ensures.view in
+    let settled = c.settle-reply.ensures.view.2 in
     let fewer = offer_count p.desk c.settle-reply.new.desk p.number c.len-call.result c.args.tag _ c.args.packet.now c.settle-reply.result settled
     (length p.desk.known.items) (seen_count p.desk c.pass.invariant.desk) in
     let table : c.self.inside.table.parameters
     ≡ c.args.self.now.parameters = ap (λ (b : BasisValue). b.parameters) c.self.view_is in
     let before : p.desk.seat.view.reads ≡ c.args.pass.now.reads = ap (λ (q : PassValue). q.reads) c.pass.view_is in
-    let reads : c.settle-reply.new.desk.seat.view.reads
-    ≤ c.args.pass.now.reads + length p.desk.known.items * width_of c.args.self.now.parameters + length settled.more * width_of c.args.self.now.parameters =
-    subst (λ (q : Parameters). c.settle-reply.new.desk.seat.view.reads
-    ≤ c.args.pass.now.reads + length p.desk.known.items * width_of c.args.self.now.parameters + length settled.more * width_of q) (same c)
-    (subst (λ (q : Parameters). c.settle-reply.new.desk.seat.view.reads
-    ≤ c.args.pass.now.reads + length p.desk.known.items * width_of q + length settled.more * width_of p.desk.seat.view.sight.parameters) table
-    (subst (λ (r : ℕ). c.settle-reply.new.desk.seat.view.reads
-    ≤ r + length p.desk.known.items * width_of c.self.inside.table.parameters + length settled.more * width_of p.desk.seat.view.sight.parameters) before settled.reads)) in
-    reads_at_most c.args.pass.now.reads (length p.desk.known.items) (length settled.more) _
-    (width_of c.args.self.now.parameters) _ reads fewer
+    let width : ℕ = width_of c.args.self.now.parameters in
+    let again : c.settle-reply.ensures.view.0 ≤ c.args.pass.now.reads + length p.desk.known.items * width =
+    subst (λ (q : Parameters). c.settle-reply.ensures.view.0 ≤ c.args.pass.now.reads + length p.desk.known.items * width_of q) table
+    (subst (λ (r : ℕ). c.settle-reply.ensures.view.0 ≤ r + length p.desk.known.items * width_of c.self.inside.table.parameters) before c.settle-reply.ensures.view.1) in
+    let found : c.settle-reply.new.desk.seat.view.reads ≤ c.settle-reply.ensures.view.0 + length settled.more * width =
+    subst (λ (q : Parameters). c.settle-reply.new.desk.seat.view.reads ≤ c.settle-reply.ensures.view.0 + length settled.more * width_of q) (same c) settled.reads in
+    reads_at_most c.args.pass.now.reads (length p.desk.known.items) (length settled.more) _ width _ (omega arith) fewer
