@@ -12,7 +12,7 @@ pub struct SeedWords {
     pub block: u16,
     /// The checks of a generation, T.
     pub checks: u8,
-    /// The number of the ticket's key, and of that of the draws.
+    /// The number of the keys: that of the ticket and that of the draws.
     pub key: u64,
     /// The peer that the ticket is for.
     pub peer: u16,

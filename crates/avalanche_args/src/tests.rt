@@ -16,13 +16,6 @@ const SEED: SeedWords = SeedWords {
     bare: false,
 };
 
-const RELAY: RelayWords = RelayWords {
-    receivers: 2,
-    key: 1,
-    link: 1,
-    coded: 64,
-};
-
 fn words_of(alloc: Global, line: &str) -> Result<Words, Memory> {
     let mut words = Words::new(alloc);
     for word in line.split_whitespace() {
@@ -58,6 +51,17 @@ fn options_of_seed(rt: HostRuntime) -> Result<(), Fail> {
         ),
         ("seed --peer 0", SeedWords { peer: 0, ..SEED }),
         ("seed --peer 63", SeedWords { peer: 63, ..SEED }),
+    ];
+    for (line, expected) in cases {
+        let words = words_of(rt.alloc(), line)?;
+        assert_eq!(rt; read_words(&words), Ok(Command::Seed(expected)), "{line}");
+    }
+    Ok(())
+}
+
+#[test]
+fn packets_that_seed_is_asked_for(rt: HostRuntime) -> Result<(), Fail> {
+    let cases = [
         ("seed --coded 0", SEED),
         (
             "seed --coded 1024",
@@ -105,62 +109,37 @@ fn options_of_fetch(rt: HostRuntime) -> Result<(), Fail> {
     Ok(())
 }
 
+// By key, coded, link and receivers.
 #[test]
 fn options_of_relay(rt: HostRuntime) -> Result<(), Fail> {
     let cases = [
-        ("relay", RELAY),
-        ("relay --", RELAY),
-        ("relay --key 0", RelayWords { key: 0, ..RELAY }),
-        (
-            "relay --key=18446744073709551615",
-            RelayWords {
-                key: u64::MAX,
-                ..RELAY
-            },
-        ),
-        ("relay --coded 0", RelayWords { coded: 0, ..RELAY }),
-        ("relay --coded 64", RELAY),
-        (
-            "relay --coded=1024",
-            RelayWords {
-                coded: 1024,
-                ..RELAY
-            },
-        ),
-        ("relay --link 0", RelayWords { link: 0, ..RELAY }),
-        (
-            "relay --link 65535",
-            RelayWords {
-                link: 65535,
-                ..RELAY
-            },
-        ),
-        (
-            "relay --receivers 1",
-            RelayWords {
-                receivers: 1,
-                ..RELAY
-            },
-        ),
-        (
-            "relay --receivers 8",
-            RelayWords {
-                receivers: 8,
-                ..RELAY
-            },
-        ),
+        ("relay", 1, 64, 1, 2),
+        ("relay --", 1, 64, 1, 2),
+        ("relay --key 0", 0, 64, 1, 2),
+        ("relay --key=18446744073709551615", u64::MAX, 64, 1, 2),
+        ("relay --coded 0", 1, 0, 1, 2),
+        ("relay --coded 64", 1, 64, 1, 2),
+        ("relay --coded=1024", 1, 1024, 1, 2),
+        ("relay --link 0", 1, 64, 0, 2),
+        ("relay --link 65535", 1, 64, 65535, 2),
+        ("relay --receivers 1", 1, 64, 1, 1),
+        ("relay --receivers 8", 1, 64, 1, 8),
         (
             "relay --receivers 3 --link=007 --coded 10 --key 9",
-            RelayWords {
-                receivers: 3,
-                key: 9,
-                link: 7,
-                coded: 10,
-            },
+            9,
+            10,
+            7,
+            3,
         ),
     ];
-    for (line, expected) in cases {
+    for (line, key, coded, link, receivers) in cases {
         let words = words_of(rt.alloc(), line)?;
+        let expected = RelayWords {
+            receivers,
+            key,
+            link,
+            coded,
+        };
         assert_eq!(rt; read_words(&words), Ok(Command::Relay(expected)), "{line}");
     }
     Ok(())

@@ -1,5 +1,6 @@
 -- What is known of the closed bases of a stream: a legal trace, the ranks of its generations, and the shape of what is solved.
 use Rattle.std.proofs.Common.{◌≡◌, ℕ, ◌+◌, ◌<◌, ◌≤◌, List, [], length, get_or, None, refl, sym, ap, ◌∙◌, subst, arith}
+use Rattle.std.specs.Prelude.{Option}
 use Rattle.std.specs.List.{All}
 use Rattle.linear_spec.specs.declared.equations.Equations.{Equations}
 use Rattle.linear_spec.specs.declared.packet.Packet.{Packet}
@@ -11,11 +12,13 @@ use Rattle.basis_core.specs.Run.{AreInnovative}
 use Rattle.generation.specs.Shape.{IsShape, generations_of, symbols_per_block}
 use Rattle.packet_wire.specs.Stream.{Contents}
 use Rattle.shared_basis.specs.declared.params.Closed.{Closed}
+use Rattle.shared_reception.specs.declared.sends.Sending.{Sending}
 use Rattle.shared_reception.specs.Dealing.{given_below}
 use Rattle.shared_reception.specs.Received.{IsReceivedBy}
 use Rattle.avalanche_cli.specs.Packets.{HasPacketRank, equations_of}
 use Rattle.avalanche_cli.specs.Reception.{HaveShape, trace_of, traces_of}
-use Rattle.avalanche_cli.specs.Trace.{IsLegalBasis, IsLegalFetch}
+use Rattle.avalanche_cli.specs.Sends.{sends_by}
+use Rattle.avalanche_cli.specs.Trace.{IsLegalBasis, IsLegalFetch, IsLegalTrace}
 use Rattle.avalanche_cli.specs.declared.trace.Trace.{Trace}
 use Rattle.avalanche_cli.proofs.RankLemmas.{ClosedLaw, MemberLaw, OneSpanLaw, RecordRankLaw, SpansLaw, legal_rank}
 use Rattle.avalanche_cli.proofs.TraceLemmas.{length-traces, no_basis, trace_at}
@@ -43,17 +46,21 @@ legal_basis equations receivers generation packets basis is = record {
   legal = is.legal;
 }
 
-pub legal_fetch : (receivers : ℕ) (contents : Contents) (bases : List Closed) (trace : Trace) → AreReceived (equations_of contents) receivers contents.packets bases → trace.bases.items ≡ traces_of 0 bases → trace.sends.items ≡ [] → IsLegalFetch receivers contents trace
-legal_fetch receivers contents bases trace are traces no_sends = record {
-  sends = no_sends;
-  count = ap (λ (l : List BasisTrace). length l) traces ∙ length-traces 0 bases ∙ are.count;
+-- where each closed basis is legal, so is the trace of them all
+pub legal_trace : (receivers : ℕ) (sending : Option Sending) (contents : Contents) (bases : List Closed) (trace : Trace) → length bases ≡ generations_of contents.manifest.shape → ((generation : ℕ) → generation < generations_of contents.manifest.shape → IsLegalBasis (equations_of contents) receivers sending contents.packets generation (trace_of generation (get_or bases generation no_basis))) → trace.bases.items ≡ traces_of 0 bases → trace.sends.items ≡ sends_by sending trace.bases.items → IsLegalTrace receivers sending contents trace
+legal_trace receivers sending contents bases trace count each traces sends = record {
+  sends = sends;
+  count = ap (λ (l : List BasisTrace). length l) traces ∙ length-traces 0 bases ∙ count;
   bases = λ generation other low.
-      let below : generation < length bases = subst (λ n. generation < n) (sym are.count) low in
+      let below : generation < length bases = subst (λ n. generation < n) (sym count) low in
       let counted : 0 + generation ≡ generation = omega arith in
       let here : get_or trace.bases.items generation other ≡ trace_of generation (get_or bases generation no_basis) = ap (λ (l : List BasisTrace). get_or l generation other) traces ∙ trace_at 0 bases generation other no_basis below ∙ ap (λ n. trace_of n (get_or bases generation no_basis)) counted in
-      subst (IsLegalBasis (equations_of contents) receivers None contents.packets generation) (sym here)
-      (legal_basis (equations_of contents) receivers generation contents.packets (get_or bases generation no_basis) (are.each generation no_basis low));
+      subst (IsLegalBasis (equations_of contents) receivers sending contents.packets generation) (sym here) (each generation low);
 }
+
+pub legal_fetch : (receivers : ℕ) (contents : Contents) (bases : List Closed) (trace : Trace) → AreReceived (equations_of contents) receivers contents.packets bases → trace.bases.items ≡ traces_of 0 bases → trace.sends.items ≡ [] → IsLegalFetch receivers contents trace
+legal_fetch receivers contents bases trace are traces no_sends =
+    legal_trace receivers None contents bases trace are.count (λ generation low. legal_basis (equations_of contents) receivers generation contents.packets (get_or bases generation no_basis) (are.each generation no_basis low)) traces no_sends
 
 -- ---- the ranks
 

@@ -1,10 +1,17 @@
--- Pieces of a list, one for each number up to a count.
+-- Pieces of a list, one for each number up to a count or for each member of another list.
 use Rattle.std.proofs.Common.{◌≡◌, ℕ, ◌+◌, ◌<◌, List, [], ◌∷◌, ◌++◌, length, map, take, get_or, ap, ap₂, sym, ◌∙◌, append-nil, append_assoc, arith}
-use Rattle.std.specs.List.{flat_map, range_with_len}
+use Rattle.std.specs.List.{All, flat_map, range_with_len}
+use Rattle.std.proofs.lemmas.List.Elements.{All-append, All-head, All-nil, All-tail}
 use Rattle.std.proofs.lemmas.Grind.{flat_map-append}
 use Rattle.std.proofs.lemmas.List.{take_more}
 use Rattle.std.proofs.lemmas.List.Folds.{flat_map-map}
 use Rattle.std.proofs.lemmas.List.FromFn.{map-range_with_len_more}
+
+-- what holds of each member of each list holds of them all
+pub all_of_lists : {X Y : Type 0} (P : Y → Type 0) (f : X → List Y) (xs : List X) → All (λ x. All P (f x)) xs → All P (flat_map f xs)
+all_of_lists P f [] all = All-nil P
+all_of_lists P f (x ∷ xs) all =
+    All-append P (f x) (flat_map f xs) (All-head (λ y. All P (f y)) x xs all) (all_of_lists P f xs (All-tail (λ y. All P (f y)) x xs all))
 
 -- one piece more, at the end
 pub pieces_more : {X : Type 0} (f : ℕ → List X) (n : ℕ) → flat_map f (range_with_len 0 (n + 1)) ≡ flat_map f (range_with_len 0 n) ++ f n

@@ -1,6 +1,6 @@
 -- The rank of the packets of a generation that pass is the number of its basis's records, whatever the schedule was.
 use Rattle.std.proofs.Common.{◌≡◌, ℕ, ◌+◌, ◌<◌, ◌%◌, Bool, true, false, cond, List, [], ◌∷◌, ◌++◌, length, Some, refl, sym, subst}
-use Rattle.std.specs.Prelude.{Option, ◌&&◌}
+use Rattle.std.specs.Prelude.{Option}
 use Rattle.std.specs.List.{All, AllByRecursion, filter}
 use Rattle.std.proofs.Math.Nat.{mod-lt}
 use Rattle.std.proofs.lemmas.Bool.{eq-eqb}

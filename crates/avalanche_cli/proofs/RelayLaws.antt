@@ -1,11 +1,11 @@
 -- What a relay sends: each packet lies in the span of its front, they pass and make a stream, and they keep truth.
-use Rattle.std.proofs.Common.{◌≡◌, ℕ, ◌+◌, ◌*◌, ◌<◌, Bool, true, List, [], ◌∷◌, length, get_or, refl, sym, ap, subst, arith}
+use Rattle.std.proofs.Common.{◌≡◌, ℕ, ◌+◌, ◌*◌, ◌<◌, true, List, [], ◌∷◌, length, get_or, refl, sym, ap, subst, arith}
 use Rattle.std.specs.Prelude.{Some}
-use Rattle.std.specs.List.{All, AllByRecursion, filter, flat_map}
+use Rattle.std.specs.List.{All, AllByRecursion, filter}
 use Rattle.std.proofs.Math.Nat.{mul_comm}
 use Rattle.std.proofs.lemmas.Bool.{eqb-true}
 use Rattle.std.proofs.lemmas.List.{get_or-map}
-use Rattle.std.proofs.lemmas.List.Elements.{All-append, All-cons, All-filter, All-from_recursion, All-head, All-map, All-nil, All-tail, All-take, All-weaker, recursion_from_All}
+use Rattle.std.proofs.lemmas.List.Elements.{All-cons, All-filter, All-from_recursion, All-map, All-nil, All-take, All-weaker, filter_passes, recursion_from_All}
 use Rattle.linear_spec.specs.declared.equations.Equations.{Equations}
 use Rattle.linear_spec.specs.declared.packet.Packet.{Packet}
 use Rattle.linear_spec.specs.declared.record.Drawn.{Drawn}
@@ -32,6 +32,7 @@ use Rattle.avalanche_cli.specs.Trace.{IsLegalRelay}
 use Rattle.avalanche_cli.specs.declared.trace.SendEntry.{SendEntry}
 use Rattle.avalanche_cli.specs.declared.trace.Trace.{Trace}
 use Rattle.avalanche_cli.proofs.PassingLemmas.{is_passing, passing_of as passes_where}
+use Rattle.avalanche_cli.proofs.PieceLemmas.{all_of_lists}
 use Rattle.avalanche_cli.proofs.TraceLemmas.{no_trace}
 use Rattle.avalanche_cli.proofs.TrueLemmas.{InnovativeLaw, RecordedLaw, and_left, and_right, kept_more, of_records}
 
@@ -59,12 +60,6 @@ DrawTruthLaw = (k s generation link q : ℕ) (key : List ℕ) (front : List Pack
 
 -- ---- lists
 
--- what holds of each member of each list holds of them all
-all_of_lists : {X Y : Type 0} (P : Y → Type 0) (f : X → List Y) (xs : List X) → All (λ x. All P (f x)) xs → All P (flat_map f xs)
-all_of_lists P f [] all = All-nil P
-all_of_lists P f (x ∷ xs) all =
-    All-append P (f x) (flat_map f xs) (All-head (λ y. All P (f y)) x xs all) (all_of_lists P f xs (All-tail (λ y. All P (f y)) x xs all))
-
 -- what holds of a draw's packet holds of what goes out of it
 all_by : (P : Packet → Type 0) (drawn : Drawn) (packet : Packet) → P packet → All P (packets_by drawn packet)
 all_by P (Sent front) packet is = All-cons P packet [] is (All-nil P)
@@ -77,11 +72,6 @@ of_passing P equations generation (first ∷ packets) all =
     kept_more (P generation) (is_passing equations generation first) first (filter (is_passing equations generation) packets)
     (λ is. subst (λ (m : ℕ). P m first) (eqb-true first.generation generation (and_left _ _ is)) all.0)
     (of_passing P equations generation packets all.1)
-
--- what is kept by a test passes it
-all_kept : (test : Packet → Bool) (packets : List Packet) → AllByRecursion (λ p. test p ≡ true) (filter test packets)
-all_kept test [] = tt
-all_kept test (first ∷ packets) = kept_more (λ p. test p ≡ true) (test first) first (filter test packets) (λ is. is) (all_kept test packets)
 
 -- ---- a legal trace
 
@@ -166,7 +156,7 @@ module _ (recorded : RecordedLaw) (innovative : InnovativeLaw) (words : RelayWor
         let front = front_of bases (send_of sending generation n q) in
         let kept : All Kept front =
         All-take Kept (point_of_drawn (drawn_over n)) (get_or (recorded_packets bases) generation [])
-        (at_records Kept generation below (All-from_recursion Kept (passing_of contents generation) (all_kept (is_passing equations generation) contents.packets))) in
+        (at_records Kept generation below (filter_passes (is_passing equations generation) contents.packets)) in
         passing equations generation sending.link q sending.key front (are_equations weights) (front_fits generation n q below)
         (All-weaker Kept (λ (p : Packet). p.generation ≡ generation) (λ p is. eqb-true p.generation generation (and_left _ _ is)) front kept)
         (All-weaker Kept (Passes equations) (λ p is. passes_where equations p (and_right _ _ is)) front kept))

@@ -1,5 +1,5 @@
 -- From the closed bases of a relay to a legal trace, and to the stream of what was sent.
-use Rattle.std.proofs.Common.{◌≡◌, ℕ, ◌+◌, ◌<◌, List, length, map, get_or, Some, refl, sym, ap, ap₂, ◌∙◌, subst, arith}
+use Rattle.std.proofs.Common.{◌≡◌, ℕ, ◌<◌, List, length, map, get_or, Some, refl, sym, ap, ap₂, ◌∙◌}
 use Rattle.linear_spec.specs.declared.equations.Equations.{Equations}
 use Rattle.linear_spec.specs.declared.packet.Packet.{Packet}
 use Rattle.basis_core.specs.declared.trace.BasisTrace.{BasisTrace}
@@ -16,8 +16,9 @@ use Rattle.avalanche_cli.specs.SendSteps.{entry_of, packets_of_draws}
 use Rattle.avalanche_cli.specs.Trace.{IsLegalBasis, IsLegalRelay}
 use Rattle.avalanche_cli.specs.declared.trace.SendEntry.{SendEntry}
 use Rattle.avalanche_cli.specs.declared.trace.Trace.{Trace}
+use Rattle.avalanche_cli.proofs.BasesLemmas.{legal_trace}
 use Rattle.avalanche_cli.proofs.SendLemmas.{entries_are, packets_are}
-use Rattle.avalanche_cli.proofs.TraceLemmas.{length-traces, no_basis, trace_at}
+use Rattle.avalanche_cli.proofs.TraceLemmas.{no_basis}
 
 -- each generation's basis was received on by these receivers and then drawn from, and the draws are those
 pub record AreRelayed (equations : Equations) (receivers : ℕ) (sending : Sending) (packets : List Packet) (bases : List Closed) (sent : List SentDraw) : Type 0 where
@@ -49,16 +50,9 @@ sends_are contents receivers sending bases sent trace are traces sends =
     ∙ ap (λ (l : List BasisTrace). sends_of_all sending l) (sym traces)
 
 pub legal_relay : (contents : Contents) (receivers : ℕ) (sending : Sending) (bases : List Closed) (sent : List SentDraw) (trace : Trace) → AreRelayed (equations_of contents) receivers sending contents.packets bases sent → trace.bases.items ≡ traces_of 0 bases → trace.sends.items ≡ map (entry_of sending) sent → IsLegalRelay receivers sending contents trace
-legal_relay contents receivers sending bases sent trace are traces sends = record {
-  sends = sends_are contents receivers sending bases sent trace are traces sends;
-  count = ap (λ (l : List BasisTrace). length l) traces ∙ length-traces 0 bases ∙ are.count;
-  bases = λ generation other low.
-      let below : generation < length bases = subst (λ n. generation < n) (sym are.count) low in
-      let counted : 0 + generation ≡ generation = omega arith in
-      let here : get_or trace.bases.items generation other ≡ trace_of generation (get_or bases generation no_basis) = ap (λ (l : List BasisTrace). get_or l generation other) traces ∙ trace_at 0 bases generation other no_basis below ∙ ap (λ n. trace_of n (get_or bases generation no_basis)) counted in
-      subst (IsLegalBasis (equations_of contents) receivers (Some sending) contents.packets generation) (sym here)
-      (legal_basis (equations_of contents) receivers generation contents.packets sending (get_or bases generation no_basis) (are.each generation no_basis low));
-}
+legal_relay contents receivers sending bases sent trace are traces sends =
+    legal_trace receivers (Some sending) contents bases trace are.count (λ generation low. legal_basis (equations_of contents) receivers generation contents.packets sending (get_or bases generation no_basis) (are.each generation no_basis low)) traces
+    (sends_are contents receivers sending bases sent trace are traces sends)
 
 -- ---- the packets
 

@@ -1,6 +1,6 @@
 -- The packets of a generation's blocks, and the draws over them.
-use Rattle.std.proofs.Common.{◌≡◌, ℕ, zero, suc, ◌+◌, ◌<◌, Bool, true, false, List, [], ◌∷◌, length, map, get_or, if◌then◌else◌, refl, sym, ap, subst, ◌∙◌, arith}
-use Rattle.std.specs.List.{All, flat_map, range_with_len}
+use Rattle.std.proofs.Common.{◌≡◌, ℕ, ◌<◌, Bool, true, false, List, [], ◌∷◌, length, map, get_or, if◌then◌else◌, refl, sym, ap, subst, ◌∙◌, arith}
+use Rattle.std.specs.List.{All, range_with_len}
 use Rattle.std.proofs.lemmas.List.Elements.{All-append, All-get_or, All-map, All-nil, All-same, All-weaker}
 use Rattle.std.proofs.lemmas.List.FromFn.{get_or-map-range_with_len, get_or-range_with_len, length-map-range_with_len, length-range_with_len}
 use Rattle.linear_spec.specs.declared.packet.Packet.{Packet}
@@ -17,6 +17,7 @@ use Rattle.recode.specs.Systematic.{systematic_packet}
 use Rattle.avalanche_args.specs.declared.command.SeedWords.{SeedWords}
 use Rattle.avalanche_cli.specs.SendSteps.{FitsFrame}
 use Rattle.avalanche_cli.specs.Seed.{generation_packets_of, packets_of_seed, seed_draw, seed_packets_of, shape_of_seed}
+use Rattle.avalanche_cli.proofs.PieceLemmas.{all_of_lists}
 use Rattle.avalanche_cli.proofs.UnitLemmas.{IsVector-unit}
 
 -- ---- all packets of the blocks
@@ -103,15 +104,15 @@ all_of_seed P words file g blocks draws =
     (all_unless P words.bare own blocks)
     (All-map P (seed_draw words file g) numbers (λ i e within. draws (get_or numbers i e)))
 
--- a fact of every item of every piece
-all_of_pieces : {X : Type 0} (P : X → Type 0) (f : ℕ → List X) (a n : ℕ) → ((g : ℕ) → g < a + n → All P (f g)) → All P (flat_map f (range_with_len a n))
-all_of_pieces P f a zero each = All-nil P
-all_of_pieces P f a (suc n) each =
-    All-append P (f a) (flat_map f (range_with_len (a + 1) n)) (each a (omega arith)) (all_of_pieces P f (a + 1) n (λ g below. each g (omega arith)))
-
 -- a fact of every packet of a stream
 pub all_seeded : (P : Packet → Type 0) (words : SeedWords) (file : List ℕ) → ((g : ℕ) → g < generations_of (shape_of_seed words file) → All P (seed_packets_of words file g)) → All P (packets_of_seed words file)
-all_seeded P words file each = all_of_pieces P (seed_packets_of words file) 0 (generations_of (shape_of_seed words file)) (λ g below. each g (omega arith))
+all_seeded P words file each =
+    let count = generations_of (shape_of_seed words file) in
+    all_of_lists P (seed_packets_of words file) (range_with_len 0 count) (λ i e within.
+    let low : i < count = subst (λ (n : ℕ). i < n) (length-range_with_len 0 count) within in
+    let place = get_or-range_with_len 0 count i e low in
+    let here : get_or (range_with_len 0 count) i e ≡ i = omega arith in
+    subst (λ (g : ℕ). All P (seed_packets_of words file g)) (sym here) (each i low))
 
 -- ---- one packet of the blocks
 
