@@ -22,8 +22,8 @@ use Rattle.avalanche_cli.specs.Fetch.{HasFile, HasReadSound, Holds, IsTraceOf}
 use Rattle.avalanche_cli.specs.FetchSteps.{IsEnd}
 use Rattle.avalanche_cli.specs.Headline.{DrawsLie, HasHistories, IsGiven, IsHeadline, IsHeadlineOfFetch, IsHeadlineOfRelay, IsOneHistory, IsSeeded, IsSent, LiesInFront}
 use Rattle.avalanche_cli.specs.Packets.{equations_of}
-use Rattle.avalanche_cli.specs.Relay.{IsKeptRelay, IsRelayEnd, IsTrulyRelayed, Relays, sending_of, stream_of_relay}
-use Rattle.avalanche_cli.specs.Run.{IfRelay, IsKeptFetch}
+use Rattle.avalanche_cli.specs.Relay.{IsKeptRelay, IsRelayEnd, Relays, sending_of, stream_of_relay}
+use Rattle.avalanche_cli.specs.Run.{IsKeptFetch}
 use Rattle.avalanche_cli.specs.RunSteps.{IsRun}
 use Rattle.avalanche_cli.specs.Seed.{GivesStreamPrefix, IsSeedEnd, IsSeedFile, IsSeedable, stream_of_seed}
 use Rattle.avalanche_cli.specs.Trace.{IsLegalBasis, IsLegalRelay, IsLegalTrace}
@@ -41,10 +41,6 @@ HistoryLaw = (receivers : ℕ) (sending : Option Sending) (generation : ℕ) (co
 -- the packets that a legal relay sends lie in the spans of their fronts
 abbrev pub SentLaw : Type 0
 SentLaw = (bytes : List ℕ) (words : RelayWords) (contents : Contents) (trace : Trace) → IsStream bytes contents → IsLegalRelay words.receivers (sending_of words) contents trace → All (LiesInFront contents.manifest.shape (sending_of words).key trace.bases.items) trace.sends.items
-
--- what it makes of a stream is a stream, and true to what its records are true to
-abbrev pub TrulyLaw : Type 0
-TrulyLaw = (bytes : List ℕ) (words : RelayWords) (contents : Contents) (trace : Trace) → IsStream bytes contents → IsLegalRelay words.receivers (sending_of words) contents trace → IsTrulyRelayed words contents trace
 
 -- the draws of a seed lie in the spans of their blocks' packets
 abbrev pub DrawnLaw : Type 0
@@ -130,13 +126,6 @@ module _ (law : HistoryLaw) (sent_law : SentLaw) (words : RelayWords) (input : O
     relayed Memory (inl (empty, inl same)) kept = inl (empty, unmoved same)
     relayed Memory (inl (empty, inr keeps)) kept = inl (empty, keeps.0)
     relayed Memory (inr some) kept = inr (sent (AppendsSome before now) (AppendsPrefix before now) some.0 (some_prefix before now))
-
--- what was relayed is a stream, and true
-pub truly_relayed : TrulyLaw → (input : Option (List ℕ)) (trace : Trace) (said : Result Command WordClass) → IfRelay said (λ words. (contents : Contents) → Holds input contents → IsLegalRelay words.receivers (sending_of words) contents trace → IsTrulyRelayed words contents trace)
-truly_relayed law input trace (Ok (Seed words)) = tt
-truly_relayed law input trace (Ok (Fetch words)) = tt
-truly_relayed law input trace (Ok (Relay words)) = λ contents holds legal. law holds.bytes words contents trace holds.fetchable.stream legal
-truly_relayed law input trace (Err class) = tt
 
 -- ---- a seed
 

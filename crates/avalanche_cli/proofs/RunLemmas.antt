@@ -5,6 +5,7 @@ use Rattle.std.proofs.Common.{◌≡◌, ◌⊎◌, inl, inr, ℕ, List, sym, su
 use Rattle.std.specs.Prelude.{Option, Result, Ok, Err, IfSome, length, ◌<◌}
 use Rattle.std.specs.Io.KnownBytes.{Appends, Keeps}
 use Rattle.swarm_io.specs.Moved.{AppendsPrefix}
+use Rattle.packet_wire.specs.Stream.{Contents, IsStream}
 use Rattle.packet_wire.specs.declared.fault.WireFault.{WireFault}
 use Rattle.avalanche_args.specs.declared.command.Command.{Command}
 use Rattle.avalanche_args.specs.declared.command.Command.TheVariants.{Seed, Fetch, Relay}
@@ -16,13 +17,22 @@ use Rattle.avalanche_cli.specs.Delivery.{AppendsSome}
 use Rattle.avalanche_cli.specs.EmptyTrace.{IsEmptyTrace}
 use Rattle.avalanche_cli.specs.Fetch.{Gives, GivesPrefix, GivesSome, HasOtherDigest, HasReadSound, IsTooLong, IsUnfetchable, LacksRank, stream_limit}
 use Rattle.avalanche_cli.specs.FetchSteps.{IsEnd}
-use Rattle.avalanche_cli.specs.Relay.{IsRelayEnd, Relays}
+use Rattle.avalanche_cli.specs.Relay.{IsRelayEnd, IsTrulyRelayed, Relays, RelaysTruly, sending_of}
 use Rattle.avalanche_cli.specs.Run.{IfFetch, IfReadsStream, IfRelay, IfSeed, IsFetchThat, IsKept, IsRefusal, ReadsStream}
 use Rattle.avalanche_cli.specs.RunSteps.{IsRefused, IsRun}
 use Rattle.avalanche_cli.specs.Seed.{GivesStream, GivesStreamPrefix, IsSeedEnd, seed_limit}
+use Rattle.avalanche_cli.specs.Trace.{IsLegalRelay}
 use Rattle.avalanche_cli.specs.declared.outcome.Outcome.{Outcome}
+use Rattle.avalanche_cli.specs.declared.trace.Trace.{Trace}
 use Rattle.avalanche_cli.specs.declared.end.End.{End}
 use Rattle.avalanche_cli.specs.declared.end.End.TheVariants.{Done, Usage, ReadFault, WriteFault, TooLarge, BadStream, Incomplete, Mismatch, Memory}
+
+-- what a relay makes of a stream is a stream that passes, and true to what its records are true to
+abbrev pub TrulyLaw : Type 0
+TrulyLaw = (bytes : List ℕ) (words : RelayWords) (contents : Contents) (trace : Trace) → IsStream bytes contents → IsLegalRelay words.receivers (sending_of words) contents trace → IsTrulyRelayed words contents trace
+
+relays_truly : TrulyLaw → (words : RelayWords) (input : Option (List ℕ)) (trace : Trace) (Gained : List ℕ → Type 0) → Relays words input trace Gained → RelaysTruly words input trace Gained
+relays_truly law words input trace Gained is = record { relays = is; truly = law is.holds.bytes words is.contents trace is.holds.fetchable.stream is.legal }
 
 module _ (old new before now : Option (List ℕ)) (Unmoved Same Unread Unwritten Unheld : Type 0) (outcome : Outcome) where
   abbrev Ran : Result Command WordClass → Type 0
@@ -87,11 +97,11 @@ module _ (old new before now : Option (List ℕ)) (Unmoved Same Unread Unwritten
   done_of_fetch (Ok (Relay words)) is at = tt
   done_of_fetch (Err class) is at = tt
 
-  pub done_of_relay : (said : Result Command WordClass) → Ran said → outcome.end ≡ Done → IfRelay said (λ words. Relays words old outcome.trace (Appends before now))
-  done_of_relay (Ok (Seed words)) is at = tt
-  done_of_relay (Ok (Fetch words)) is at = tt
-  done_of_relay (Ok (Relay words)) is at = relayed words Done is at
-  done_of_relay (Err class) is at = tt
+  pub done_of_relay : TrulyLaw → (said : Result Command WordClass) → Ran said → outcome.end ≡ Done → IfRelay said (λ words. RelaysTruly words old outcome.trace (Appends before now))
+  done_of_relay law (Ok (Seed words)) is at = tt
+  done_of_relay law (Ok (Fetch words)) is at = tt
+  done_of_relay law (Ok (Relay words)) is at = relays_truly law words old outcome.trace (Appends before now) (relayed words Done is at)
+  done_of_relay law (Err class) is at = tt
 
   -- ---- ends that only a fetch has
 
@@ -202,11 +212,11 @@ module _ (old new before now : Option (List ℕ)) (Unmoved Same Unread Unwritten
   write_fault_of_fetch (Ok (Relay words)) is at = tt
   write_fault_of_fetch (Err class) is at = tt
 
-  pub write_fault_of_relay : (said : Result Command WordClass) → Ran said → outcome.end ≡ WriteFault → IfRelay said (λ words. Relays words old outcome.trace (AppendsPrefix before now))
-  write_fault_of_relay (Ok (Seed words)) is at = tt
-  write_fault_of_relay (Ok (Fetch words)) is at = tt
-  write_fault_of_relay (Ok (Relay words)) is at = (relayed words WriteFault is at).0
-  write_fault_of_relay (Err class) is at = tt
+  pub write_fault_of_relay : TrulyLaw → (said : Result Command WordClass) → Ran said → outcome.end ≡ WriteFault → IfRelay said (λ words. RelaysTruly words old outcome.trace (AppendsPrefix before now))
+  write_fault_of_relay law (Ok (Seed words)) is at = tt
+  write_fault_of_relay law (Ok (Fetch words)) is at = tt
+  write_fault_of_relay law (Ok (Relay words)) is at = relays_truly law words old outcome.trace (AppendsPrefix before now) (relayed words WriteFault is at).0
+  write_fault_of_relay law (Err class) is at = tt
 
   pub memory_of_seed : (said : Result Command WordClass) → Ran said → outcome.end ≡ Memory → IfSeed said (λ words. Same ⊎ (GivesStreamPrefix words old before now × Unheld))
   memory_of_seed (Ok (Seed words)) is at = seeded words Memory is at
@@ -220,8 +230,11 @@ module _ (old new before now : Option (List ℕ)) (Unmoved Same Unread Unwritten
   memory_of_fetch (Ok (Relay words)) is at = tt
   memory_of_fetch (Err class) is at = tt
 
-  pub memory_of_relay : (said : Result Command WordClass) → Ran said → outcome.end ≡ Memory → IfRelay said (λ words. (IsEmptyTrace outcome.trace × (Same ⊎ (Keeps before now × Unheld))) ⊎ (Relays words old outcome.trace (AppendsSome before now) × Unheld))
-  memory_of_relay (Ok (Seed words)) is at = tt
-  memory_of_relay (Ok (Fetch words)) is at = tt
-  memory_of_relay (Ok (Relay words)) is at = relayed words Memory is at
-  memory_of_relay (Err class) is at = tt
+  pub memory_of_relay : TrulyLaw → (said : Result Command WordClass) → Ran said → outcome.end ≡ Memory → IfRelay said (λ words. (IsEmptyTrace outcome.trace × (Same ⊎ (Keeps before now × Unheld))) ⊎ (RelaysTruly words old outcome.trace (AppendsSome before now) × Unheld))
+  memory_of_relay law (Ok (Seed words)) is at = tt
+  memory_of_relay law (Ok (Fetch words)) is at = tt
+  memory_of_relay law (Ok (Relay words)) is at = elim (relayed words Memory is at) [
+    | inl kept ↦ inl kept
+    | inr some ↦ inr (relays_truly law words old outcome.trace (AppendsSome before now) some.0, some.1)
+  ]
+  memory_of_relay law (Err class) is at = tt

@@ -80,6 +80,11 @@ pub record Relays (words : RelayWords) (input : Option (List ℕ)) (trace : Trac
   pub legal : IsLegalRelay words.receivers (sending_of words) contents trace
   pub gained : Gained (stream_of_relay words contents trace)
 
+-- the same, and what was relayed is a stream that passes, and true where its records are
+pub record RelaysTruly (words : RelayWords) (input : Option (List ℕ)) (trace : Trace) (Gained : List ℕ → Type 0) : Type 0 where
+  pub relays : Relays words input trace Gained
+  pub truly : IsTrulyRelayed words relays.contents trace
+
 -- what is kept of a relay that ends so: a legal trace where it came to writing, and else none. After want of memory there is a
 -- trace where the output took some of the stream: the contract of `run` says when
 abbrev pub IsKeptRelay : RelayWords → End → Option (List ℕ) → Trace → Type 0

@@ -11,10 +11,9 @@ ghost use Rattle.avalanche_args.specs.declared.usage.WordClass.{WordClass as wor
 ghost use Rattle.avalanche_cli.specs.Files.{IsFirstIncomplete, source_file};
 ghost use Rattle.avalanche_cli.specs.Packets.{AreTrueTo, HasFullRank};
 ghost use Rattle.avalanche_cli.specs.EmptyTrace.{IsEmptyTrace};
-ghost use Rattle.avalanche_cli.specs.Fetch.{Gives, GivesPrefix, GivesSome, HasOtherDigest, HasReadSound, Holds, IsFetchable, IsTooLong, IsUnfetchable, LacksRank, stream_limit};
+ghost use Rattle.avalanche_cli.specs.Fetch.{Gives, GivesPrefix, GivesSome, HasOtherDigest, HasReadSound, IsFetchable, IsTooLong, IsUnfetchable, LacksRank, stream_limit};
 ghost use Rattle.avalanche_cli.specs.Delivery.{AppendsSome};
-ghost use Rattle.avalanche_cli.specs.Relay.{IsTrulyRelayed, Relays, sending_of};
-ghost use Rattle.avalanche_cli.specs.Trace.{IsLegalRelay};
+ghost use Rattle.avalanche_cli.specs.Relay.{RelaysTruly};
 ghost use Rattle.avalanche_cli.specs.Seed.{GivesStream, GivesStreamPrefix, IsSeedable, seed_limit, stream_of_seed};
 ghost use Rattle.avalanche_cli.specs.Headline.{IsHeadline};
 ghost use Rattle.avalanche_cli.specs.Lines.{line_of};
@@ -62,14 +61,15 @@ pub fn run<R: Threads + Sync, G: Gate, I: Source, O: Sink, E: Sink>(
     ensures kept { IsKept (command_of words.now) result.end (I.remaining input.old) result.trace }
 
     // Done: the whole input was read. A `seed` gave the stream of the file that it read; a `fetch` gave the file of the bases,
-    // which has the digest that the manifest says; a `relay` gave the manifest and the ticket that it read, with what it sent.
+    // which has the digest that the manifest says; a `relay` gave the manifest and the ticket that it read, with what it sent: a
+    // stream whose packets pass the checks of its ticket, and where all records are true to some blocks, so are all packets sent.
     ensures done_reads_all { result.end ≡ End.Done → IsAtEnd (I.remaining input.new) }
     ensures done_of_seed { result.end ≡ End.Done → IfSeed (command_of words.now) (λ said.
         GivesStream said (I.remaining input.old) (O.contents output.old) (O.contents output.new)) }
     ensures done_of_fetch { result.end ≡ End.Done → IfFetch (command_of words.now) (λ said.
         Gives said.receivers (I.remaining input.old) result.trace (O.contents output.old) (O.contents output.new)) }
     ensures done_of_relay { result.end ≡ End.Done → IfRelay (command_of words.now) (λ said.
-        Relays said (I.remaining input.old) result.trace (Appends (O.contents output.old) (O.contents output.new))) }
+        RelaysTruly said (I.remaining input.old) result.trace (Appends (O.contents output.old) (O.contents output.new))) }
 
     // A file within the limit is seeded, unless a fault came or memory was wanted.
     ensures within_limit { IfSeed (command_of words.now) (λ said. IfSome (I.remaining input.old) (λ bytes. length bytes ≤ seed_limit said
@@ -98,14 +98,11 @@ pub fn run<R: Threads + Sync, G: Gate, I: Source, O: Sink, E: Sink>(
         → ¬ Rose (I.faults input.old) (I.faults input.new) → ¬ Rose (O.faults output.old) (O.faults output.new)
         → ((result.end ≡ End.Done) × Appends (O.contents output.old) (O.contents output.new) file) ⊎ (result.end ≡ End.Memory))) }
 
-    // A stream is relayed, unless a fault came or memory was wanted. What was relayed is a stream, whose packets pass the checks
-    // of its ticket, and where all records are true to some blocks, so are all packets sent.
+    // A stream is relayed, unless a fault came or memory was wanted.
     ensures relayed { IfRelay (command_of words.now) (λ said. IfSome (I.remaining input.old) (λ bytes. (contents : Contents)
         → IsFetchable bytes contents
         → ¬ Rose (I.faults input.old) (I.faults input.new) → ¬ Rose (O.faults output.old) (O.faults output.new)
         → (result.end ≡ End.Done) ⊎ (result.end ≡ End.Memory))) }
-    ensures truly_relayed { IfRelay (command_of words.now) (λ said. (contents : Contents) → Holds (I.remaining input.old) contents
-        → IsLegalRelay said.receivers (sending_of said) contents result.trace → IsTrulyRelayed said contents result.trace) }
 
     // Mismatch: the file has another digest, which was found.
     ensures mismatch { (found : list ℕ) → result.end ≡ End.Mismatch found → IsFetchThat (command_of words.now) (λ said.
@@ -152,7 +149,7 @@ pub fn run<R: Threads + Sync, G: Gate, I: Source, O: Sink, E: Sink>(
     ensures write_fault_of_fetch { result.end ≡ End.WriteFault → IfFetch (command_of words.now) (λ said.
         GivesPrefix said.receivers (I.remaining input.old) result.trace (O.contents output.old) (O.contents output.new)) }
     ensures write_fault_of_relay { result.end ≡ End.WriteFault → IfRelay (command_of words.now) (λ said.
-        Relays said (I.remaining input.old) result.trace (AppendsPrefix (O.contents output.old) (O.contents output.new))) }
+        RelaysTruly said (I.remaining input.old) result.trace (AppendsPrefix (O.contents output.old) (O.contents output.new))) }
     ensures memory_of_seed { result.end ≡ End.Memory → IfSeed (command_of words.now) (λ said. (output.new ≡ output.old)
         ⊎ (GivesStreamPrefix said (I.remaining input.old) (O.contents output.old) (O.contents output.new)
         × Rose (O.wants output.old) (O.wants output.new))) }
@@ -164,7 +161,7 @@ pub fn run<R: Threads + Sync, G: Gate, I: Source, O: Sink, E: Sink>(
     ensures memory_of_relay { result.end ≡ End.Memory → IfRelay (command_of words.now) (λ said.
         (IsEmptyTrace result.trace × ((output.new ≡ output.old) ⊎ (Keeps (O.contents output.old) (O.contents output.new)
         × Rose (O.wants output.old) (O.wants output.new))))
-        ⊎ (Relays said (I.remaining input.old) result.trace (AppendsSome (O.contents output.old) (O.contents output.new))
+        ⊎ (RelaysTruly said (I.remaining input.old) result.trace (AppendsSome (O.contents output.old) (O.contents output.new))
         × Rose (O.wants output.old) (O.wants output.new))) }
 
     // Counts never fall, and no more is read than the command's limit and one byte.

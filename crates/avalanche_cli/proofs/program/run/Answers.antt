@@ -1,4 +1,4 @@
-use Rattle.avalanche_cli.proofs.HeadlineLemmas.{headline, keeps_itself, truly_relayed}
+use Rattle.avalanche_cli.proofs.HeadlineLemmas.{headline, keeps_itself}
 use Rattle.avalanche_cli.proofs.RunLemmas as ran
 use Rattle.avalanche_cli.proofs.CompleteLemmas as complete
 use Rattle.avalanche_cli.proofs.program.run.Goals as goal
@@ -22,7 +22,7 @@ pub returns-clause-done_of_fetch : goal.returns-clause-done_of_fetch
 returns-clause-done_of_fetch g c = λ at. ran.done_of_fetch _ _ _ _ _ _ _ _ _ c.perform-outcome.result _ c.perform-outcome.ensures.run at
 
 pub returns-clause-done_of_relay : goal.returns-clause-done_of_relay
-returns-clause-done_of_relay g c = λ at. ran.done_of_relay _ _ _ _ _ _ _ _ _ c.perform-outcome.result _ c.perform-outcome.ensures.run at
+returns-clause-done_of_relay g c = λ at. ran.done_of_relay _ _ _ _ _ _ _ _ _ c.perform-outcome.result c.relayed_streams.ensures.truly _ c.perform-outcome.ensures.run at
 
 pub returns-clause-within_limit : goal.returns-clause-within_limit
 returns-clause-within_limit g c = complete.within_limit _ _ _ _ _ _ _ _ c.perform-outcome.result _ _ c.perform-outcome.ensures.run
@@ -76,7 +76,7 @@ pub returns-clause-write_fault_of_fetch : goal.returns-clause-write_fault_of_fet
 returns-clause-write_fault_of_fetch g c = λ at. ran.write_fault_of_fetch _ _ _ _ _ _ _ _ _ c.perform-outcome.result _ c.perform-outcome.ensures.run at
 
 pub returns-clause-write_fault_of_relay : goal.returns-clause-write_fault_of_relay
-returns-clause-write_fault_of_relay g c = λ at. ran.write_fault_of_relay _ _ _ _ _ _ _ _ _ c.perform-outcome.result _ c.perform-outcome.ensures.run at
+returns-clause-write_fault_of_relay g c = λ at. ran.write_fault_of_relay _ _ _ _ _ _ _ _ _ c.perform-outcome.result c.relayed_streams.ensures.truly _ c.perform-outcome.ensures.run at
 
 pub returns-clause-memory_of_seed : goal.returns-clause-memory_of_seed
 returns-clause-memory_of_seed g c = λ at. ran.memory_of_seed _ _ _ _ _ _ _ _ _ c.perform-outcome.result _ c.perform-outcome.ensures.run at
@@ -85,7 +85,7 @@ pub returns-clause-memory_of_fetch : goal.returns-clause-memory_of_fetch
 returns-clause-memory_of_fetch g c = λ at. ran.memory_of_fetch _ _ _ _ _ _ _ _ _ c.perform-outcome.result _ c.perform-outcome.ensures.run at
 
 pub returns-clause-memory_of_relay : goal.returns-clause-memory_of_relay
-returns-clause-memory_of_relay g c = λ at. ran.memory_of_relay _ _ _ _ _ _ _ _ _ c.perform-outcome.result _ c.perform-outcome.ensures.run at
+returns-clause-memory_of_relay g c = λ at. ran.memory_of_relay _ _ _ _ _ _ _ _ _ c.perform-outcome.result c.relayed_streams.ensures.truly _ c.perform-outcome.ensures.run at
 
 pub returns-clause-true_packets : goal.returns-clause-true_packets
 returns-clause-true_packets g c = complete.true_packets _ _ _ _ _ _ _ _ c.perform-outcome.result c.incomplete.ensures.one c.incomplete.ensures.not_full c.readings.ensures.not_both c.readings.ensures.one_fault c.true_packets.ensures _ _ c.perform-outcome.ensures.run
@@ -103,6 +103,3 @@ returns-clause-seeded_stream g c =
 
 pub returns-clause-relayed : goal.returns-clause-relayed
 returns-clause-relayed g c = complete.relayed _ _ _ _ _ _ _ _ c.perform-outcome.result c.incomplete.ensures.one c.incomplete.ensures.not_full c.readings.ensures.not_both c.readings.ensures.one_fault _ _ c.perform-outcome.ensures.run
-
-pub returns-clause-truly_relayed : goal.returns-clause-truly_relayed
-returns-clause-truly_relayed g c = truly_relayed c.relayed_streams.ensures.truly _ c.perform-outcome.result.trace _
