@@ -35,7 +35,7 @@ build_anew() {
     echo "${0##*/}: the program is not built, and the kit's command rt is not on the path" >&2
     return 1
   fi
-  log=$(mktemp) || return
+  log=$(mktemp -t avalanche-build.XXXXXX) || return
   echo "${0##*/}: proving and building, some minutes the first time (see $log)" >&2
   rm -f "$top/crates/$crate/out/$crate"
   (cd "$top/crates/$crate" && exec rt run -- "$@") </dev/null >/dev/null 2>"$log" 9<&- || true
