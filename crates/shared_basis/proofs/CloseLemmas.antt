@@ -23,7 +23,7 @@ use Rattle.shared_basis.specs.declared.params.Closed.{Closed}
 use Rattle.shared_basis.specs.declared.params.Params.{Params}
 use Rattle.shared_basis.specs.Bases.{AreParameters, BasisValue, IsBasis, PassValue}
 use Rattle.shared_basis.specs.Close.{AreAllPasses, IsCloseOf, caller_of_pass}
-use Rattle.shared_basis.specs.Decoding.{AreLaidOut}
+use Rattle.shared_basis.specs.Decoding.{HaveRegions}
 use Rattle.shared_basis.specs.Gathering.{AreCallersOf, HasGathered, HasTaken, HasTakenFrom}
 use Rattle.shared_basis.specs.Passes.{calls_of}
 use Rattle.shared_basis.specs.Regions.{record_at}
@@ -89,7 +89,7 @@ module _ (basis : BasisValue) (given : List PassValue) (founder : SeatValue Foun
   callers_are = subst (λ (l : List PassValue). AreCallersOf (reverse callers) l) (sym gathered.split) gathered.callers_are
 
 -- the regions of words at the end are among them
-pub laid_out : (p : Parameters) (f : FounderView) (words : List ℕ) → IsClosed p f words → AreLaidOut p.k p.s words
+pub laid_out : (p : Parameters) (f : FounderView) (words : List ℕ) → IsClosed p f words → HaveRegions p.k p.s words
 laid_out p f words closed = record {
   directory = (let count : length words ≡ basis_length p.k p.s p.passes = closed.count in
       let x : ℕ = (p.passes + p.k) * region_length p.k p.s in let count' : length words ≡ p.k + x = count in omega arith);
@@ -193,11 +193,11 @@ closed_words q p f before words same none closed =
 
 module _ (table : TableValue) (params : Params) (passes : ℕ) (is : IsBasis table params passes) where
   -- the same of a slice of the words, in the basis's own numbers
-  pub laid_out_for : (f : FounderView) (words slice : List ℕ) → IsClosed table.parameters f words → slice ≡ words → AreLaidOut params.k params.s slice
+  pub laid_out_for : (f : FounderView) (words slice : List ℕ) → IsClosed table.parameters f words → slice ≡ words → HaveRegions params.k params.s slice
   laid_out_for f words slice closed same =
-      subst (λ (l : List ℕ). AreLaidOut params.k params.s l) (sym same)
-      (subst (λ (k : ℕ). AreLaidOut k params.s words) (sym is.k)
-      (subst (λ (s : ℕ). AreLaidOut table.parameters.k s words) (sym is.s) (laid_out table.parameters f words closed)))
+      subst (λ (l : List ℕ). HaveRegions params.k params.s l) (sym same)
+      (subst (λ (k : ℕ). HaveRegions k params.s words) (sym is.k)
+      (subst (λ (s : ℕ). HaveRegions table.parameters.k s words) (sym is.s) (laid_out table.parameters f words closed)))
 
   pub decoded_records : (p : Parameters) (words slice : List ℕ) (decoded : List Record) → table.parameters ≡ p
       → decoded ≡ records_of_words params.generation params.k params.s slice → slice ≡ words → decoded ≡ records_of_words p.generation p.k p.s words

@@ -10,7 +10,7 @@ use Rattle.linear_spec.specs.declared.packet.Packet.{Packet}
 use Rattle.linear_spec.specs.Rows.{missing_columns_of, pivot_of}
 use Rattle.table_rows.specs.declared.view.Front.{Front}
 use Rattle.table_rows.specs.declared.view.Parameters.{Parameters}
-use Rattle.table_rows.specs.Good.{HasRecord, IsNext, row_at}
+use Rattle.table_rows.specs.Good.{HasRecord, IsNextRegion, row_at}
 use Rattle.table_rows.specs.Layout.{pivot_in}
 use Rattle.table_rows.specs.Views.{IsReadWhole, word_read, words_read}
 use Rattle.shared_basis.specs.declared.desk.Desk.{Desk}
@@ -100,7 +100,7 @@ pub pivot_read : (front : Front) (n : ℕ) → IsReadWhole front → n < length 
     → word_read front.read n 1 ≡ Some (pivot_in (get_or (words_read front) n []))
 pivot_read front n whole within wide = word_there front n 1 whole within wide
 
-module _ (has : (p : Parameters) (before : List (List ℕ)) (region : List ℕ) → IsNext p before region
+module _ (has : (p : Parameters) (before : List (List ℕ)) (region : List ℕ) → IsNextRegion p before region
     → HasRecord p before region)
     (d : Desk) (desk : IsDesk d) (n : ℕ) (within : n < length (regions_seen d.seat.view)) where
   record_there : HasRecord d.seat.view.sight.parameters (take n (regions_seen d.seat.view)) (get_or

@@ -14,7 +14,7 @@ use Rattle.linear_spec.specs.Packet.{Fits, vector_of}
 use Rattle.linear_spec.specs.Passing.{Passes}
 use Rattle.linear_spec.specs.Rows.{StandsFor, StandForAll, IsRowOf, first_nonzero, pivot_of, remainder_of}
 use Rattle.table_rows.specs.declared.view.Parameters.{Parameters}
-use Rattle.table_rows.specs.Good.{HasRecord, IsGood, IsNext, packet_at, row_at}
+use Rattle.table_rows.specs.Good.{HasRecord, IsGood, IsNextRegion, packet_at, row_at}
 use Rattle.table_rows.specs.Layout.{call_in, caller_in, packet_in, pivot_in, region_for, row_in}
 use Rattle.shared_basis.specs.Desks.{HasLengths}
 use Rattle.shared_basis.specs.Passes.{IsFor}
@@ -66,7 +66,7 @@ pub record Laws : Type 0 where
       → IsRowOf k rows packet row → StandsFor k s packets rows packet row
   pub full : (k s : ℕ) (packets rows : List Packet) (packet : Packet) → All (Fits k s) packets → Fits k s packet → StandForAll k s packets rows
       → length packets ≡ k → ¬ IsFresh k packets packet
-  pub next : (p : Parameters) (before : List (List ℕ)) (region : List ℕ) → HasRecord p before region → IsNext p before region
+  pub next : (p : Parameters) (before : List (List ℕ)) (region : List ℕ) → HasRecord p before region → IsNextRegion p before region
   pub fit : (p : Parameters) (regions : List (List ℕ)) → IsGood p regions → All (Fits p.k p.s) (map (packet_at p) regions)
   pub stand : (p : Parameters) (regions : List (List ℕ)) → IsGood p regions → StandForAll p.k p.s (map (packet_at p) regions) (map (row_at p) regions)
   pub caller : (r : Record) (pivot : ℕ) (row : Packet) → r.call < 2 ^ 32 → caller_in (region_for r pivot row) ≡ r.caller
@@ -181,7 +181,7 @@ module _ (laws : Laws) (p : Parameters) (regions : List (List ℕ)) (packet left
     }
 
     -- it may come next
-    pub draft_is_next : IsNext p regions words
+    pub draft_is_next : IsNextRegion p regions words
     draft_is_next = laws.next p regions words (record {
       fits = subst (Fits p.k p.s) (sym packet_is) is.offered.fits;
       passes = subst (Passes p.equations.value) (sym packet_is) is.passes;

@@ -20,7 +20,7 @@ use Rattle.table_rows.specs.declared.view.CallerView.{CallerView}
 use Rattle.table_rows.specs.declared.view.Parameters.{Parameters}
 use Rattle.table_rows.specs.Good.{offers_from, offers_of}
 use Rattle.table_rows.specs.Layout.{call_in, caller_in}
-use Rattle.table_rows.specs.Steps.{IsSound}
+use Rattle.table_rows.specs.Steps.{IsSoundView}
 use Rattle.table_rows.specs.Views.{IsReadWhole}
 use Rattle.shared_basis.specs.Regions.{record_at, records_seen, regions_seen}
 
@@ -177,7 +177,7 @@ others_are passes number records few callers others k d below =
     (others k d below, let one = callers k d below in omega arith)
 
 -- the records that a sound view has seen are those of callers that have numbers
-callers_seen : (w : CallerView) → IsSound w → IsReadWhole w.sight.front
+callers_seen : (w : CallerView) → IsSoundView w → IsReadWhole w.sight.front
     → All (λ record'. record'.caller < w.sight.parameters.passes) (records_seen w)
 callers_seen w sound whole = All-map (λ (record' : Record). record'.caller < w.sight.parameters.passes)
     (record_at w.sight.parameters) (regions_seen w) (sound.callers whole)
@@ -186,7 +186,7 @@ callers_seen w sound whole = All-map (λ (record' : Record). record'.caller < w.
 pub history_on : OtherRecordsLaw → OthersLaw
     → (v w : CallerView) (number : ℕ) (calls : List KeptCall) (more : List (List ℕ)) (rest : List Record)
     → IsHistory v.sight.parameters.equations.value number calls (records_seen v)
-    → w.sight.parameters ≡ v.sight.parameters → v.sight.parameters.passes ≤ 16 → IsSound w → IsReadWhole w.sight.front
+    → w.sight.parameters ≡ v.sight.parameters → v.sight.parameters.passes ≤ 16 → IsSoundView w → IsReadWhole w.sight.front
     → All (λ region. caller_in region ≢ number) more
     → records_seen w ≡ map (record_at v.sight.parameters) (regions_seen v ++ more) ++ rest
     → AreInnovative w.sight.parameters.equations.value (packets_of (records_seen w))

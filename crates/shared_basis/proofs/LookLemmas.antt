@@ -10,7 +10,7 @@ use Rattle.linear_spec.specs.declared.packet.Packet.{Packet}
 use Rattle.linear_spec.specs.List.{ListValue}
 use Rattle.table_rows.specs.declared.view.CallerView.{CallerView}
 use Rattle.table_rows.specs.declared.view.Parameters.{Parameters}
-use Rattle.table_rows.specs.Steps.{IsCaller, IsSound, after_found, after_reads}
+use Rattle.table_rows.specs.Steps.{IsCaller, IsSoundView, after_found, after_reads}
 use Rattle.table_rows.specs.Views.{IsReadWhole, IsWhole, blank_row, row_with, width_of, with_region, with_words, words_of_row}
 use Rattle.shared_basis.specs.declared.desk.Desk.{Desk}
 use Rattle.shared_basis.specs.Desks.{HasLengths, IsDesk}
@@ -77,7 +77,7 @@ is_read d e u region desk found read = read ∙ (ap (λ (x : CallerView). after_
     ∙ ap (λ (l : List ℕ). after_reads (after_found d.seat.view region) (length l) e.words.items) desk.known)
 
 -- a desk is one still when a region was found and learnt
-pub still_desk : Filled → (d e : Desk) (region : ℕ) → IsDesk d → IsSound e.seat.view
+pub still_desk : Filled → (d e : Desk) (region : ℕ) → IsDesk d → IsSoundView e.seat.view
     → e.seat.view ≡ after_reads (after_found d.seat.view region) (length d.seat.view.sight.front.known) e.words.items
     → e.known.items ≡ d.known.items ++ region ∷ [] → e.known.spare + 1 ≡ d.known.spare → vec_len e.words ≡ vec_len d.words
     → e.draft ≡ d.draft → e.left ≡ d.left → e.row ≡ d.row → IsDesk e
@@ -176,7 +176,7 @@ module _ (filled : Filled) (v w : CallerView) (n : ℕ) (words : List ℕ) (whol
   same_view width long wide is = is ∙ (λ i. record v { sight = record v.sight { front = same_front long i }; reads = v.reads + wide i })
 
 -- a desk is one still when words were read again, into its words or its row
-pub reread_desk : (d e : Desk) (reads : ℕ) → IsDesk d → IsSound e.seat.view → e.seat.view ≡ record d.seat.view { reads = reads }
+pub reread_desk : (d e : Desk) (reads : ℕ) → IsDesk d → IsSoundView e.seat.view → e.seat.view ≡ record d.seat.view { reads = reads }
     → e.draft ≡ d.draft → e.known ≡ d.known → vec_len e.words ≡ vec_len d.words → e.left ≡ d.left
     → HasLengths d.seat.view.sight.parameters e.row → IsDesk e
 reread_desk d e reads desk sound is draft known words left row =

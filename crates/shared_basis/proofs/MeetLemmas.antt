@@ -6,7 +6,7 @@ use Rattle.table_rows.specs.declared.view.CallerView.{CallerView}
 use Rattle.table_rows.specs.declared.view.Front.{Front}
 use Rattle.table_rows.specs.declared.view.Sight.{Sight}
 use Rattle.table_rows.specs.Seats.{SeatValue}
-use Rattle.table_rows.specs.Steps.{IsSight, IsSound, after_join_note, after_write}
+use Rattle.table_rows.specs.Steps.{IsSight, IsSoundView, after_join_note, after_write}
 use Rattle.table_rows.specs.Views.{IsPartOf, IsReadWhole, joined_sight, noted}
 use Rattle.shared_basis.specs.declared.desk.Desk.{Desk}
 use Rattle.shared_basis.specs.Desks.{IsBrought}
@@ -33,7 +33,7 @@ noted_sight s is = record { count = is.count; regions = is.regions; rows = is.ro
 pub either_most : (m n : ℕ) → (m ≤ n) ⊎ (n ≤ m)
 either_most m n = grind arith
 
-module _ (laws : MeetingLaws) (a b : CallerView) (same : b.sight.parameters ≡ a.sight.parameters) (is_a : IsSound a) (is_b : IsSound b)
+module _ (laws : MeetingLaws) (a b : CallerView) (same : b.sight.parameters ≡ a.sight.parameters) (is_a : IsSoundView a) (is_b : IsSoundView b)
     (whole_a : IsReadWhole a.sight.front) (whole_b : IsReadWhole b.sight.front) where
   abbrev second : CallerView
   second = after_join_note b (noted a.sight)
@@ -41,7 +41,7 @@ module _ (laws : MeetingLaws) (a b : CallerView) (same : b.sight.parameters ≡ 
   abbrev first : CallerView
   first = after_join_note a (noted second.sight)
 
-  pub have_met : IsSound (after_write first 0 0) → IsSound (after_write second 0 0) → HaveMet a b (after_write first 0 0) (after_write second 0 0)
+  pub have_met : IsSoundView (after_write first 0 0) → IsSoundView (after_write second 0 0) → HaveMet a b (after_write first 0 0) (after_write second 0 0)
   have_met sound_a sound_b =
       let P : Front → Type 0 = λ (old : Front). IsPartOf old second.sight.front in
       let olds_b : All P (b.sight.front ∷ a.sight.front ∷ (b.sight.olds ++ [])) = sound_b.olds in
@@ -77,7 +77,7 @@ module _ (laws : MeetingLaws) (a b : CallerView) (same : b.sight.parameters ≡ 
   -- the same of views that are what the steps one after another make them
   pub met_views : (a' b' b'' a'' after_a after_b : CallerView) (note_a note_b : Sight) → a' ≡ a → note_a ≡ noted a.sight → b' ≡ after_join_note b note_a
       → b'' ≡ b' → note_b ≡ noted b'.sight → a'' ≡ after_join_note a' note_b → after_a ≡ after_write a'' 0 0 → after_b ≡ after_write b'' 0 0
-      → IsSound after_a → IsSound after_b
+      → IsSoundView after_a → IsSoundView after_b
       → HaveMet a b after_a after_b × (after_a ≡ after_write first 0 0) × (after_b ≡ after_write second 0 0)
   met_views a' b' b'' a'' after_a after_b note_a note_b ea na eb eb' nb ea' wa wb sound_a sound_b =
       let to_second : b' ≡ second = eb ∙ ap (λ (n : Sight). after_join_note b n) na in
@@ -85,7 +85,7 @@ module _ (laws : MeetingLaws) (a b : CallerView) (same : b.sight.parameters ≡ 
       let to_first : a'' ≡ first = ea' ∙ (λ i. after_join_note (ea i) (to_note i)) in
       let is_a' : after_a ≡ after_write first 0 0 = wa ∙ ap (λ (v : CallerView). after_write v 0 0) to_first in
       let is_b' : after_b ≡ after_write second 0 0 = wb ∙ ap (λ (v : CallerView). after_write v 0 0) (eb' ∙ to_second) in
-      let met = have_met (subst IsSound is_a' sound_a) (subst IsSound is_b' sound_b) in (
+      let met = have_met (subst IsSoundView is_a' sound_a) (subst IsSoundView is_b' sound_b) in (
         subst (λ (v : CallerView). HaveMet a b v after_b) (sym is_a') (subst (λ (v : CallerView). HaveMet a b (after_write first 0 0) v) (sym is_b') met),
         is_a',
         is_b',
@@ -94,7 +94,7 @@ module _ (laws : MeetingLaws) (a b : CallerView) (same : b.sight.parameters ≡ 
 -- desks that have met
 module _ (a b : Desk) (seat_a seat_b : SeatValue CallerView)
     (met : HaveMet a.seat.view b.seat.view seat_a.view seat_b.view) where
-  pub brought_first : (note : Sight) → seat_a.table ≡ a.seat.table → IsSound seat_a.view → seat_a.view ≡ after_write (after_join_note a.seat.view note) 0 0
+  pub brought_first : (note : Sight) → seat_a.table ≡ a.seat.table → IsSoundView seat_a.view → seat_a.view ≡ after_write (after_join_note a.seat.view note) 0 0
       → IsBrought a b (record { seat = seat_a; draft = a.draft; known = a.known; words = a.words; left = a.left; row = a.row })
   brought_first note table sound is = record {
     sound = sound;
@@ -114,7 +114,7 @@ module _ (a b : Desk) (seat_a seat_b : SeatValue CallerView)
     row_kept = refl;
   }
 
-  pub brought_second : (note : Sight) → seat_b.table ≡ b.seat.table → IsSound seat_b.view → seat_b.view ≡ after_write (after_join_note b.seat.view note) 0 0
+  pub brought_second : (note : Sight) → seat_b.table ≡ b.seat.table → IsSoundView seat_b.view → seat_b.view ≡ after_write (after_join_note b.seat.view note) 0 0
       → IsBrought b a (record { seat = seat_b; draft = b.draft; known = b.known; words = b.words; left = b.left; row = b.row })
   brought_second note table sound is = record {
     sound = sound;

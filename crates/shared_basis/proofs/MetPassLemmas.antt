@@ -18,7 +18,7 @@ use Rattle.table_rows.specs.declared.view.Parameters.{Parameters}
 use Rattle.table_rows.specs.Good.{IsGood, offers_of}
 use Rattle.table_rows.specs.Layout.{caller_in}
 use Rattle.table_rows.specs.Seats.{SeatValue}
-use Rattle.table_rows.specs.Steps.{IsSound}
+use Rattle.table_rows.specs.Steps.{IsSoundView}
 use Rattle.table_rows.specs.Views.{IsPartOf, IsReadWhole, width_of, words_of_row, words_read}
 use Rattle.shared_basis.specs.declared.desk.Desk.{Desk}
 use Rattle.shared_basis.specs.Bases.{AreParameters, HasFounder, IsPass, PassValue, kept_calls}
@@ -176,11 +176,11 @@ known_second front one all part is =
     (λ i. one ++ drop (length one) ((is ∙ part.1) i)) ∙ (ap (λ (l : List ℕ). one ++ l) (drop_at one part.0 (length one) refl) ∙ sym part.1)
 
 -- as many records as regions are known
-seen_count : (v : CallerView) → IsSound v → length (records_seen v) ≡ length v.sight.front.known
+seen_count : (v : CallerView) → IsSoundView v → length (records_seen v) ≡ length v.sight.front.known
 seen_count v is = length-map (regions_seen v) (record_at v.sight.parameters) ∙ (length-map v.sight.front.read words_of_row ∙ is.shaped.sight.rows)
 
 -- what the longer front gives
-pub longer_seen : (v w after : CallerView) → IsSound v → IsSound w → after.sight.parameters ≡ v.sight.parameters
+pub longer_seen : (v w after : CallerView) → IsSoundView v → IsSoundView w → after.sight.parameters ≡ v.sight.parameters
     → (length w.sight.front.known ≤ length v.sight.front.known → after.sight.front ≡ v.sight.front)
     → length (records_seen w) ≤ length (records_seen v) → records_seen after ≡ records_seen v
 longer_seen v w after is_v is_w same to le =

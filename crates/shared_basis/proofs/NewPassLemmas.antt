@@ -14,7 +14,7 @@ use Rattle.table_rows.specs.declared.view.CallerView.{CallerView}
 use Rattle.table_rows.specs.declared.view.FounderView.{FounderView}
 use Rattle.table_rows.specs.declared.view.Parameters.{Parameters}
 use Rattle.table_rows.specs.Seats.{SeatValue}
-use Rattle.table_rows.specs.Steps.{IsSound}
+use Rattle.table_rows.specs.Steps.{IsSoundView}
 use Rattle.table_rows.specs.Views.{IsPartOf, first_sight, new_caller, width_of}
 use Rattle.table_rows.specs.declared.view.Front.{Front}
 use Rattle.shared_basis.specs.declared.desk.Desk.{Desk}
@@ -23,7 +23,7 @@ use Rattle.shared_basis.specs.Desks.{HasLengths}
 use Rattle.shared_basis.specs.Passes.{AreNewPasses, IsNewPass}
 
 -- what a new caller's view tells is sound
-new_sound : (p : Parameters) (number : ℕ) → number < p.passes → IsSound (new_caller p number)
+new_sound : (p : Parameters) (number : ℕ) → number < p.passes → IsSoundView (new_caller p number)
 new_sound p number below = record {
   shaped = record {
     sight = record { count = omega arith; regions = All-nil _; rows = refl; wide = All-nil _ };

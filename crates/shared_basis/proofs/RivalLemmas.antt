@@ -21,9 +21,9 @@ use Rattle.linear_spec.specs.SequentialBasis.{IsCaseReply, recorded}
 use Rattle.table_rows.specs.declared.view.CallerView.{CallerView}
 use Rattle.table_rows.specs.declared.view.Front.{Front}
 use Rattle.table_rows.specs.declared.view.Parameters.{Parameters}
-use Rattle.table_rows.specs.Good.{HasRecord, IsNext, offers_from, offers_of, packet_at, row_at}
+use Rattle.table_rows.specs.Good.{HasRecord, IsNextRegion, offers_from, offers_of, packet_at, row_at}
 use Rattle.table_rows.specs.Layout.{call_in, caller_in, row_in}
-use Rattle.table_rows.specs.Steps.{IsSound, after_found, after_reads, after_win}
+use Rattle.table_rows.specs.Steps.{IsSoundView, after_found, after_reads, after_win}
 use Rattle.table_rows.specs.Views.{IsReadWhole, IsWhole, blank_row, row_with, width_of, with_region, with_words, words_of_row}
 use Rattle.shared_basis.specs.declared.desk.Desk.{Desk}
 use Rattle.shared_basis.specs.Desks.{HasLengths, IsDesk}
@@ -63,7 +63,7 @@ others_behind number regions more e =
     λ i d lt. not_named number (0 + length regions) more (omega arith) i d lt
 
 -- regions that a caller found are others'
-pub found_others : (more : List (List ℕ)) (v w : CallerView) → IsSound v → IsReadWhole v.sight.front → IsSound w → IsReadWhole w.sight.front
+pub found_others : (more : List (List ℕ)) (v w : CallerView) → IsSoundView v → IsReadWhole v.sight.front → IsSoundView w → IsReadWhole w.sight.front
     → HasFound more v w → All (λ region. caller_in region ≢ v.number) more
 found_others more v w sound whole sound_after whole_after found =
     let after : w.own ≡ offers_of v.number (regions_seen v ++ more) = sound_after.own whole_after
@@ -317,7 +317,7 @@ left_next last rows n vector left_before left_after below before reduced =
     reduced none ∙ (ap (remainder_of (row ∷ [])) before ∙ (sym (last (take n rows) row vector) ∙ ap (λ l. remainder_of l vector) (sym (take_more rows n none below))))
 
 -- a desk after one region more is known
-pub desk_more : (d e : Desk) (region : ℕ) → IsDesk d → e.seat.view.sight.parameters ≡ d.seat.view.sight.parameters → IsSound e.seat.view
+pub desk_more : (d e : Desk) (region : ℕ) → IsDesk d → e.seat.view.sight.parameters ≡ d.seat.view.sight.parameters → IsSoundView e.seat.view
     → IsReadWhole e.seat.view.sight.front → e.draft ≡ e.seat.view.draft → e.seat.view.sight.front.known ≡ d.seat.view.sight.front.known ++ region ∷ []
     → e.known.items ≡ d.known.items ++ region ∷ [] → e.known.spare + 1 ≡ d.known.spare → vec_len e.words ≡ vec_len d.words
     → HasLengths d.seat.view.sight.parameters e.left → HasLengths d.seat.view.sight.parameters e.row → IsDesk e
@@ -348,13 +348,13 @@ known_more d e region before after found =
     known_count e after ∙ (ap length found.regions ∙ (length-append (regions_seen d.seat.view) (region ∷ []) ∙ ap (λ n. n + 1) (sym (known_count d before))))
 
 -- the region that was found has a record that came next
-found_record : ((p : Parameters) (before : List (List ℕ)) (region : List ℕ) → IsNext p before region → HasRecord p before region)
-    → (v w : CallerView) (region : ℕ) (words : List ℕ) → IsSound w → IsFound v w region words → HasRecord v.sight.parameters (regions_seen v) words
+found_record : ((p : Parameters) (before : List (List ℕ)) (region : List ℕ) → IsNextRegion p before region → HasRecord p before region)
+    → (v w : CallerView) (region : ℕ) (words : List ℕ) → IsSoundView w → IsFound v w region words → HasRecord v.sight.parameters (regions_seen v) words
 found_record has v w region words sound is =
     let n = length (regions_seen v) in
     let all : regions_seen w ≡ regions_seen v ++ words ∷ [] = is.found.regions in
     let long : length (regions_seen w) ≡ n + length (words ∷ []) = ap length all ∙ length-append (regions_seen v) (words ∷ []) in
-    let next : IsNext w.sight.parameters (take n (regions_seen w)) (get_or (regions_seen w) n []) = sound.good is.whole n (omega arith) in
+    let next : IsNextRegion w.sight.parameters (take n (regions_seen w)) (get_or (regions_seen w) n []) = sound.good is.whole n (omega arith) in
     let front : take n (regions_seen w) ≡ regions_seen v = ap (take n) all ∙ take-append_seam (regions_seen v) (words ∷ []) in
     let last : get_or (regions_seen w) n [] ≡ words = ap (λ (l : List (List ℕ)). get_or l n []) all ∙ get_or-append_seam (regions_seen v) words [] [] in
     subst (λ p. HasRecord p (regions_seen v) words) is.found.parameters
@@ -362,8 +362,8 @@ found_record has v w region words sound is =
     (has w.sight.parameters (take n (regions_seen w)) (get_or (regions_seen w) n []) next)))
 
 -- an exchange was lost: a region was found, and its row was read
-pub lost_row : Filling → ((p : Parameters) (before : List (List ℕ)) (region : List ℕ) → IsNext p before region → HasRecord p before region)
-    → (d : Desk) (u w : CallerView) (written : List (Option ℕ)) (region : ℕ) (words : List ℕ) (generation k s : ℕ) (row : Packet) → IsDesk d → IsSound w
+pub lost_row : Filling → ((p : Parameters) (before : List (List ℕ)) (region : List ℕ) → IsNextRegion p before region → HasRecord p before region)
+    → (d : Desk) (u w : CallerView) (written : List (Option ℕ)) (region : ℕ) (words : List ℕ) (generation k s : ℕ) (row : Packet) → IsDesk d → IsSoundView w
     → length words ≡ width_of d.seat.view.sight.parameters → u ≡ after_found (record d.seat.view { written = written }) region
     → w ≡ after_reads u (length d.known.items) words → row ≡ row_in generation k s words → k ≡ d.seat.view.sight.parameters.k → s ≡ d.seat.view.sight.parameters.s
     → IsFound d.seat.view w region words × IsRowRead d.seat.view.sight.parameters words row

@@ -28,7 +28,7 @@ pub record IsRoomFor (p : Parameters) (room : Room) : Type 0 where
   pub callers : (room.callers.items ≡ []) × (p.passes ≤ room.callers.spare)
 
 -- each region that the directory names is one of the words
-pub record AreLaidOut (k s : ℕ) (words : List ℕ) : Type 0 where
+pub record HaveRegions (k s : ℕ) (words : List ℕ) : Type 0 where
   pub directory : k ≤ length words
   pub regions : (n : ℕ) → n < length_of k words
       → (1 ≤ slice_index words n) × (k + slice_index words n * region_length k s ≤ length words)

@@ -4,7 +4,7 @@ use Rattle.linear_spec.specs.declared.packet.Packet.{Packet}
 use Rattle.linear_spec.specs.Packet.{vector_of}
 use Rattle.linear_spec.specs.Rows.{remainder_of}
 use Rattle.table_rows.specs.declared.view.Parameters.{Parameters}
-use Rattle.table_rows.specs.Steps.{IsSound}
+use Rattle.table_rows.specs.Steps.{IsSoundView}
 use Rattle.table_rows.specs.Views.{IsPartOf, IsReadWhole, width_of}
 use Rattle.shared_basis.specs.declared.desk.Desk.{Desk}
 use Rattle.shared_basis.specs.Regions.{rows_seen}
@@ -16,7 +16,7 @@ pub record HasLengths (p : Parameters) (packet : Packet) : Type 0 where
 
 -- the seat's view is sound and read whole; draft and regions are those of the view; and there is room for what may come
 pub record IsDesk (d : Desk) : Type 0 where
-  pub sound : IsSound d.seat.view
+  pub sound : IsSoundView d.seat.view
   pub whole : IsReadWhole d.seat.view.sight.front
   pub draft : d.draft ≡ d.seat.view.draft
   pub known : d.known.items ≡ d.seat.view.sight.front.known
@@ -33,7 +33,7 @@ IsLeftOf packet d = vector_of d.left ≡ remainder_of (rows_seen d.seat.view) (v
 -- after a desk was brought together with another: its front is the longer of the two, each a part of it, and it is sound. The rest
 -- is as before, but for what was written into the draft; the list of regions is not yet that of the front
 pub record IsBrought (before other after : Desk) : Type 0 where
-  pub sound : IsSound after.seat.view
+  pub sound : IsSoundView after.seat.view
   pub whole : IsReadWhole after.seat.view.sight.front
   pub parameters : after.seat.view.sight.parameters ≡ before.seat.view.sight.parameters
   pub table : after.seat.table ≡ before.seat.table

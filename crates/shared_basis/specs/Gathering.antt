@@ -12,7 +12,7 @@ use Rattle.table_rows.specs.declared.view.Parameters.{Parameters}
 use Rattle.table_rows.specs.Closing.{StandsAmong}
 use Rattle.table_rows.specs.Good.{offers_of}
 use Rattle.table_rows.specs.Seats.{SeatValue}
-use Rattle.table_rows.specs.Steps.{IsSound}
+use Rattle.table_rows.specs.Steps.{IsSoundView}
 use Rattle.table_rows.specs.Views.{IsReadWhole, words_read}
 use Rattle.shared_basis.specs.declared.gathering.Parts.{Parts}
 use Rattle.shared_basis.specs.Bases.{BasisValue, HasFounder, PassValue}
@@ -25,7 +25,7 @@ pub record AreParts (pass : PassValue) (parts : Parts) : Type 0 where
   pub table : parts.seat.table ≡ pass.table
   pub parameters : parts.seat.view.sight.parameters ≡ pass.parameters
   pub number : parts.seat.view.number ≡ pass.number
-  pub sound : IsSound parts.seat.view
+  pub sound : IsSoundView parts.seat.view
   pub whole : IsReadWhole parts.seat.view.sight.front
   pub seen : pass.seen ≡ records_seen parts.seat.view
   pub founder_is : HasFounder pass.table pass.parameters pass.number parts.founder

@@ -1,7 +1,7 @@
 //! The records and rows of a basis, out of its words.
 ghost use Rattle.std.specs.Prelude.{◌≡◌, ◌≤◌, ◌+◌, ◌*◌, [], length};
 ghost use Rattle.table_rows.specs.Layout.{record_in, records_of_words, region_length, region_of, row_in, rows_of_words};
-ghost use Rattle.shared_basis.specs.Decoding.{AreBlanksFor, AreLaidOut};
+ghost use Rattle.shared_basis.specs.Decoding.{AreBlanksFor, HaveRegions};
 
 use crate::Params;
 use crate::regions::{take_packet, take_row};
@@ -15,7 +15,7 @@ pub(crate) fn decode_all(
     records: &mut List<Record>,
     rows: &mut List<Packet>,
 )
-    requires words { AreLaidOut params.now.k params.now.s words.now }
+    requires words { HaveRegions params.now.k params.now.s words.now }
     requires packets { AreBlanksFor params.now (2 * params.now.k) packets.old.items }
     requires records { (records.old.items ≡ []) × (params.now.k ≤ records.old.spare) }
     requires rows { (rows.old.items ≡ []) × (params.now.k ≤ rows.old.spare) }

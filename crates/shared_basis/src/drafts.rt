@@ -1,7 +1,7 @@
 //! Regions, read and written word after word.
 ghost use Rattle.std.specs.Prelude.{◌≡◌, ◌+◌, ◌^◌, ◌<◌, ℕ, List, Some, [], drop, length, map, slice_index, slice_index_or};
 ghost use Rattle.table_rows.specs.Seats.{IsCallerAt};
-ghost use Rattle.table_rows.specs.Steps.{IsSound, after_reads};
+ghost use Rattle.table_rows.specs.Steps.{IsSoundView, after_reads};
 ghost use Rattle.table_rows.specs.Views.{IsReadWhole, width_of, words_read};
 
 use table_rows::{BasisTable, CallerSeat};
@@ -21,7 +21,7 @@ pub(crate) fn read_region(
     ensures seat { IsCallerAt table.now seat.new }
     ensures view { seat.new.view ≡ after_reads seat.old.view n words.new }
     ensures again { (before : List ℕ) → slice_index_or seat.old.view.sight.front.read n [] ≡ map Some before → words.new ≡ before }
-    ensures sound { IsSound seat.new.view }
+    ensures sound { IsSoundView seat.new.view }
 {
     table_rows::laws::filling();
     seat.is_caller();
@@ -44,11 +44,11 @@ pub(crate) fn read_rest(
     requires words { from + length words.old ≡ width_of table.now.parameters }
     requires narrow { width_of table.now.parameters < 2 ^ 32 }
     requires whole { IsReadWhole seat.old.view.sight.front }
-    requires sound { IsSound seat.old.view }
+    requires sound { IsSoundView seat.old.view }
     ensures seat { IsCallerAt table.now seat.new }
     ensures view { seat.new.view ≡ record seat.old.view { reads = seat.old.view.reads + length words.old } }
     ensures words { words.new ≡ drop from (slice_index_or (words_read seat.old.view.sight.front) n []) }
-    ensures sound { IsSound seat.new.view }
+    ensures sound { IsSoundView seat.new.view }
 {
     table_rows::laws::reading();
     seat.is_caller();
@@ -65,7 +65,7 @@ pub(crate) fn write_draft(table: &BasisTable, seat: &mut CallerSeat, draft: u64,
     requires narrow { width_of table.now.parameters < 2 ^ 32 }
     ensures seat { IsCallerAt table.now seat.new }
     ensures view { seat.new.view ≡ record seat.old.view { written = map Some words.now } }
-    ensures sound { IsSound seat.new.view }
+    ensures sound { IsSoundView seat.new.view }
 {
     table_rows::laws::filling();
     seat.is_caller();

@@ -3,7 +3,7 @@ ghost use Rattle.std.specs.Prelude.{◌≡◌, ◌<◌, ◌≤◌, ◌+◌, ◌^
 ghost use Rattle.std.specs.Bool.{OnTrue, OnFalse};
 ghost use Rattle.table_rows.specs.Layout.{row_in, words_for};
 ghost use Rattle.table_rows.specs.Seats.{IsCallerAt};
-ghost use Rattle.table_rows.specs.Steps.{IsSound, after_empty, after_reads};
+ghost use Rattle.table_rows.specs.Steps.{IsSoundView, after_empty, after_reads};
 ghost use Rattle.table_rows.specs.Views.{width_of};
 ghost use Rattle.shared_basis.specs.Desks.{IsDesk};
 ghost use Rattle.shared_basis.specs.Regions.{HasFound, HasLookedOn, regions_seen};
@@ -23,7 +23,7 @@ pub(crate) fn learn(table: &BasisTable, desk: &mut Desk, region: u64)
     requires narrow { width_of table.now.parameters < 2 ^ 32 }
     ensures seat { IsCallerAt table.now desk.new.seat }
     ensures view { desk.new.seat.view ≡ after_reads desk.old.seat.view (length desk.old.known.items) desk.new.words.items }
-    ensures sound { IsSound desk.new.seat.view }
+    ensures sound { IsSoundView desk.new.seat.view }
     ensures known { desk.new.known.items ≡ desk.old.known.items ++ region ∷ [] }
     ensures room { desk.new.known.spare + 1 ≡ desk.old.known.spare }
     ensures words { vec_len desk.new.words ≡ vec_len desk.old.words }

@@ -8,10 +8,10 @@ ghost use Rattle.linear_spec.specs.Cases.{IsFresh};
 ghost use Rattle.linear_spec.specs.Packet.{vector_of};
 ghost use Rattle.linear_spec.specs.Passing.{Passes};
 ghost use Rattle.linear_spec.specs.Rows.{first_nonzero, pivot_of, remainder_of};
-ghost use Rattle.table_rows.specs.Good.{IsNext};
+ghost use Rattle.table_rows.specs.Good.{IsNextRegion};
 ghost use Rattle.table_rows.specs.Layout.{call_in, caller_in, region_for, region_length};
 ghost use Rattle.table_rows.specs.Seats.{IsCallerAt, IsExchanged};
-ghost use Rattle.table_rows.specs.Steps.{IsSound};
+ghost use Rattle.table_rows.specs.Steps.{IsSoundView};
 ghost use Rattle.table_rows.specs.Views.{IsReadWhole, width_of};
 ghost use Rattle.shared_basis.specs.Bases.{AreParameters};
 ghost use Rattle.shared_basis.specs.Desks.{HasLengths, IsDesk, IsLeftOf};
@@ -216,7 +216,7 @@ fn draft_record(desk: &mut Desk, number: u32, call: u32, packet: &Packet, invers
     ensures fresh { IsFresh desk.old.seat.view.sight.parameters.k (packets_seen desk.old.seat.view) packet.now }
     ensures room { length desk.old.known.items < desk.old.seat.view.sight.parameters.k }
     ensures named { record_at desk.old.seat.view.sight.parameters desk.new.words.items ≡ record { caller = number; call = call; packet = packet.now } }
-    ensures next { IsNext desk.old.seat.view.sight.parameters (regions_seen desk.old.seat.view) desk.new.words.items }
+    ensures next { IsNextRegion desk.old.seat.view.sight.parameters (regions_seen desk.old.seat.view) desk.new.words.items }
     ensures row { HasLengths desk.old.seat.view.sight.parameters desk.new.row }
     ensures words { vec_len desk.new.words ≡ vec_len desk.old.words }
     ensures seat { desk.new.seat ≡ desk.old.seat }
@@ -273,10 +273,10 @@ fn publish(table: &BasisTable, desk: &mut Desk, front: u16, call: u32) -> Exchan
     requires front { (front ≡ length desk.old.seat.view.sight.front.known) × (front < table.now.parameters.k) }
     requires named { (caller_in desk.old.words.items ≡ desk.old.seat.view.number) × (call_in desk.old.words.items ≡ call) }
     requires read { IsReadWhole desk.old.seat.view.sight.front }
-    requires good { IsNext table.now.parameters (regions_seen desk.old.seat.view) desk.old.words.items }
+    requires good { IsNextRegion table.now.parameters (regions_seen desk.old.seat.view) desk.old.words.items }
     ensures seat { IsCallerAt table.now desk.new.seat }
     ensures view { IsExchanged (record desk.old.seat.view { written = map Some desk.old.words.items }) desk.new.seat.view result }
-    ensures sound { IsSound desk.new.seat.view }
+    ensures sound { IsSoundView desk.new.seat.view }
     ensures draft { desk.new.draft ≡ desk.old.draft }
     ensures known { desk.new.known ≡ desk.old.known }
     ensures words { desk.new.words ≡ desk.old.words }

@@ -15,7 +15,7 @@ use Rattle.table_rows.specs.declared.view.CallerView.{CallerView}
 use Rattle.table_rows.specs.declared.view.View.{View}
 use Rattle.table_rows.specs.declared.view.View.TheVariants.{Founder, Caller, Note, Spent}
 use Rattle.table_rows.specs.Layout.{place_of, region_length, basis_length, caller_in, call_in}
-use Rattle.table_rows.specs.Good.{IsGood, IsNext, offers_from, offers_of}
+use Rattle.table_rows.specs.Good.{IsGood, IsNextRegion, offers_from, offers_of}
 use Rattle.table_rows.specs.Views.{width_of, at_place, words_read, blank_row, IsWhole, IsReadWhole}
 use Rattle.table_rows.specs.Steps.{exchanged, after_win, after_found, draft_words}
 use Rattle.table_rows.specs.Rule.{World, Use, StandsIn, AreLaidOut, AreCounted, Knows, CallerKnows, TableRule, holds}
@@ -49,7 +49,7 @@ none_is_not : (A : Type 0) (x : A) → None ≢ Some x
 none_is_not A x e = cc
 
 module _ (p : Parameters) (w : World) (counted : AreCounted p w) (seat : ℕ) (v : CallerView) (words : List ℕ) (knows : CallerKnows p w words seat v)
-    (small : length w.dir < p.k) (whole : IsWhole v.written) (named : caller_in (draft_words v) ≡ v.number) (next : IsNext p w.log (draft_words v)) where
+    (small : length w.dir < p.k) (whole : IsWhole v.written) (named : caller_in (draft_words v) ≡ v.number) (next : IsNextRegion p w.log (draft_words v)) where
   abbrev uses_after : ℕ → Use
   uses_after = instead (instead w.uses v.draft (record_at (length w.dir))) (p.passes + length w.dir + 1) (draft_of seat)
 
@@ -126,13 +126,13 @@ module _ (p : Parameters) (w : World) (counted : AreCounted p w) (seat : ℕ) (v
   good_after = λ m lt. let long : length (w.log ++ draft_words v ∷ []) ≡ length w.log + 1 = log_long in
       let logged : length w.log ≡ length w.dir = counted.logged in
       dite (ℕ_discrete m (length w.log))
-      (λ here. subst (λ (t : List (List ℕ)). IsNext p t (get_or (w.log ++ draft_words v ∷ []) m []))
+      (λ here. subst (λ (t : List (List ℕ)). IsNextRegion p t (get_or (w.log ++ draft_words v ∷ []) m []))
       (sym (ap (λ (i : ℕ). take i (w.log ++ draft_words v ∷ [])) here ∙ take-append_seam w.log (draft_words v ∷ [])))
-      (subst (λ (r : List ℕ). IsNext p w.log r) (sym (log_last m (here ∙ logged))) next))
+      (subst (λ (r : List ℕ). IsNextRegion p w.log r) (sym (log_last m (here ∙ logged))) next))
       (λ there. let before : m < length w.log = omega arith in
-      subst (λ (t : List (List ℕ)). IsNext p t (get_or (w.log ++ draft_words v ∷ []) m []))
+      subst (λ (t : List (List ℕ)). IsNextRegion p t (get_or (w.log ++ draft_words v ∷ []) m []))
       (sym (take-append-le m w.log (draft_words v ∷ []) (omega arith)))
-      (subst (λ (r : List ℕ). IsNext p (take m w.log) r) (sym (log_before m (omega arith))) (counted.good m before)))
+      (subst (λ (r : List ℕ). IsNextRegion p (take m w.log) r) (sym (log_before m (omega arith))) (counted.good m before)))
 
   counted_after : AreCounted p world_after
   counted_after =
@@ -214,7 +214,7 @@ module _ (p : Parameters) (w : World) (counted : AreCounted p w) (seat : ℕ) (v
 
 -- Append and Lose
 pub exchanges : (slots seat n : ℕ) (v : CallerView) → n ≡ length v.sight.front.known → n < v.sight.parameters.k → IsWhole v.written
-    → caller_in (draft_words v) ≡ v.number → IsReadWhole v.sight.front → IsNext v.sight.parameters (words_read v.sight.front) (draft_words v)
+    → caller_in (draft_words v) ≡ v.number → IsReadWhole v.sight.front → IsNextRegion v.sight.parameters (words_read v.sight.front) (draft_words v)
     → Allows {S = Unit {0}} (holds v.sight.parameters) slots seat (Caller v, []) n (λ x. either (x == 0) v.draft x) (exchanged (step slots n 0 v.draft none) (Caller v, []))
 exchanges slots seat n v is lt whole named read next s rule _ at _ =
     let p : Parameters = v.sight.parameters in
@@ -234,7 +234,7 @@ exchanges slots seat n v is lt whole named read next s rule _ at _ =
     let all : v.sight.front.known ≡ w.dir = known_all w.dir v.sight.front.known stands.prefix.0 stands.prefix.1 (sym is ∙ last) in
     let log : words_read v.sight.front ≡ w.log = front_is p w counted v.sight.front stands read
     ∙ (ap (λ (i : ℕ). take i w.log) (sym is ∙ (last ∙ sym logged)) ∙ take-length w.log) in
-    let next' : IsNext p w.log (draft_words v) = subst (λ (l : List (List ℕ)). IsNext p l (draft_words v)) log next in
+    let next' : IsNextRegion p w.log (draft_words v) = subst (λ (l : List (List ℕ)). IsNextRegion p l (draft_words v)) log next in
     let small : length w.dir < p.k = subst (λ (i : ℕ). i < p.k) last lt in
     let now = knows_after p w counted seat v s.words knows small whole named next' refl all in
     let dir : List ℕ = w.dir ++ v.draft ∷ [] in
@@ -254,7 +254,7 @@ exchanges slots seat n v is lt whole named read next s rule _ at _ =
       keeps,
       tt,
       subst (λ (b : Bool). TableRule p (set s.words n (either b v.draft x)) (set s.views seat (Caller (after_win v)))) (sym (eq-eqb x 0 empty)) after,
-      (refl, ((λ _. refl), λ some_there. absurd (some_there empty)), sounds p (changed w dir regions uses) counted' words seat (after_win v) now),
+      (refl, ((λ _. refl), λ some_there. absurd (some_there empty)), sounds p (changed w dir regions uses) counted' words seat (after_win v) now, ((is, lt), refl, refl)),
     ))
     (λ some_there.
     let before : n < length w.dir = dite (dec_le (length w.dir) n) (λ past. absurd (some_there (rule.laid.empty n past lt))) (λ not-le. omega arith) in
@@ -265,5 +265,5 @@ exchanges slots seat n v is lt whole named read next s rule _ at _ =
       tt,
       subst (λ (b : Bool). TableRule p (set s.words n (either b v.draft x)) (set s.views seat (Caller (after_found v x)))) (sym (ne_eqb x 0 some_there))
           (stays p s rule n seat v (after_found v x) at refl now),
-      (refl, ((λ empty. absurd (some_there empty)), λ _. refl), sounds p w counted s.words seat (after_found v x) now),
+      (refl, ((λ empty. absurd (some_there empty)), λ _. refl), sounds p w counted s.words seat (after_found v x) now, ((is, lt), refl, refl)),
     ))

@@ -13,7 +13,7 @@ use Rattle.table_rows.specs.declared.view.View.TheVariants.{Founder, Caller, Not
 use Rattle.std.specs.Prelude.{◌==◌}
 use prog.Atomic.{either}
 use Rattle.table_rows.specs.Layout.{caller_in}
-use Rattle.table_rows.specs.Good.{IsNext}
+use Rattle.table_rows.specs.Good.{IsNextRegion}
 use Rattle.table_rows.proofs.Appending.{exchanges}
 use Rattle.table_rows.specs.Layout.{basis_length, place_of, region_length}
 use Rattle.table_rows.specs.Views.{IsReadWhole, IsWhole, as_caller, as_founder, as_sight, width_of, words_read}
@@ -124,12 +124,12 @@ some_words p k s words is lp =
 pub exchange_allowed : (key : Parameters) (slots seat n draft : ℕ) (me : Here) → me ≡ (Caller (as_caller me.0), []) → (as_caller me.0).sight.parameters ≡ key
     → n ≡ length (as_caller me.0).sight.front.known → n < key.k → draft ≡ (as_caller me.0).draft → IsWhole (as_caller me.0).written
     → caller_in (draft_words (as_caller me.0)) ≡ (as_caller me.0).number → IsReadWhole (as_caller me.0).sight.front
-    → IsNext key (words_read (as_caller me.0).sight.front) (draft_words (as_caller me.0))
+    → IsNextRegion key (words_read (as_caller me.0).sight.front) (draft_words (as_caller me.0))
     → Allows {S = Unit {0}} (holds key) slots seat me n (λ x. either (x == 0) draft x) (exchanged (step slots n 0 draft none) me)
 exchange_allowed key slots seat n draft me is same next lt own whole named read good =
     let v : CallerView = as_caller me.0 in
     let lt' : n < v.sight.parameters.k = subst (λ (q : Parameters). n < q.k) (sym same) lt in
-    let good' : IsNext v.sight.parameters (words_read v.sight.front) (draft_words v) = subst (λ (q : Parameters). IsNext q (words_read v.sight.front) (draft_words v)) (sym same) good in
+    let good' : IsNextRegion v.sight.parameters (words_read v.sight.front) (draft_words v) = subst (λ (q : Parameters). IsNextRegion q (words_read v.sight.front) (draft_words v)) (sym same) good in
     subst (λ (q : Parameters). Allows {S = Unit {0}} (holds q) slots seat me n (λ x. either (x == 0) draft x) (exchanged (step slots n 0 draft none) me)) same
     (subst (λ (m : Here). Allows {S = Unit {0}} (holds v.sight.parameters) slots seat m n (λ x. either (x == 0) draft x) (exchanged (step slots n 0 draft none) m)) (sym is)
     (subst (λ (d : ℕ). Allows {S = Unit {0}} (holds v.sight.parameters) slots seat (Caller v, []) n (λ x. either (x == 0) d x) (exchanged (step slots n 0 d none) (Caller v, []))) (sym own)

@@ -8,14 +8,14 @@ use Rattle.linear_spec.specs.Passing.{Passes}
 use Rattle.linear_spec.specs.Cases.{IsFresh}
 use Rattle.linear_spec.specs.Rows.{StandsFor, StandForAll}
 use Rattle.table_rows.specs.declared.view.Parameters.{Parameters}
-use Rattle.table_rows.specs.Good.{HasRecord, IsGood, IsNext, packet_at, row_at}
+use Rattle.table_rows.specs.Good.{HasRecord, IsGood, IsNextRegion, packet_at, row_at}
 
-pub next_is : (p : Parameters) (before : List (List ℕ)) (region : List ℕ) → HasRecord p before region → IsNext p before region
-unfolding IsNext
+pub next_is : (p : Parameters) (before : List (List ℕ)) (region : List ℕ) → HasRecord p before region → IsNextRegion p before region
+unfolding IsNextRegion
 next_is p before region has = has
 
-pub next_has : (p : Parameters) (before : List (List ℕ)) (region : List ℕ) → IsNext p before region → HasRecord p before region
-unfolding IsNext
+pub next_has : (p : Parameters) (before : List (List ℕ)) (region : List ℕ) → IsNextRegion p before region → HasRecord p before region
+unfolding IsNextRegion
 next_has p before region next = next
 
 take_map : {X Y : Type 0} (f : X → Y) (n : ℕ) (l : List X) → take n (map f l) ≡ map f (take n l)

@@ -96,7 +96,7 @@ looks slots seat n v next lt s rule _ at _ =
       keeps,
       tt,
       stays p s rule n seat v (after_empty v) at refl now,
-      (refl, ((λ _. refl), λ some_there. absurd (some_there none_there)), sounds p w rule.counted s.words seat (after_empty v) now),
+      (refl, ((λ _. refl), λ some_there. absurd (some_there none_there)), sounds p w rule.counted s.words seat (after_empty v) now, (next, lt)),
     ))
     (λ some_there.
     let named : n < length w.dir = dite (dec_le (length w.dir) n) (λ past. absurd (some_there (rule.laid.empty n past lt))) (λ not-le. omega arith) in
@@ -106,7 +106,7 @@ looks slots seat n v next lt s rule _ at _ =
       keeps,
       tt,
       stays p s rule n seat v (after_found v found) at refl now,
-      (refl, ((λ none_there. absurd (some_there none_there)), λ _. refl), sounds p w rule.counted s.words seat (after_found v found) now),
+      (refl, ((λ none_there. absurd (some_there none_there)), λ _. refl), sounds p w rule.counted s.words seat (after_found v found) now, (next, lt)),
     ))
 
 -- two known regions are one only at one position
@@ -142,5 +142,6 @@ reads slots seat at n place v ln lp there s rule _ sits _ =
             let same_n : n ≡ m = one_position p w rule.counted n m (omega arith) (omega arith) one.0 in
             ((λ i. after_read v (same_n i) (one.1 i) x), (λ word e. is ∙ ((λ i. get_or (get_or w.log (same_n i) []) (one.1 i) 0) ∙ sym (knows.sight.front.words m q word e))))),
         sounds p w rule.counted s.words seat (after_read v n place x) now,
+        record { n = n; place = place; known = ln; within = lp; word_is = there },
       ),
     )

@@ -9,9 +9,9 @@ use Rattle.table_rows.specs.declared.view.Front.{Front}
 use Rattle.table_rows.specs.declared.view.Sight.{Sight}
 use Rattle.table_rows.specs.declared.view.CallerView.{CallerView}
 use Rattle.table_rows.specs.Layout.{caller_in, call_in}
-use Rattle.table_rows.specs.Good.{IsGood, IsNext, offers_from, offers_of}
+use Rattle.table_rows.specs.Good.{IsGood, IsNextRegion, offers_from, offers_of}
 use Rattle.table_rows.specs.Views.{at_place, width_of, words_of_row, words_read, IsWhole, IsReadWhole}
-use Rattle.table_rows.specs.Steps.{IsSight, IsSound}
+use Rattle.table_rows.specs.Steps.{IsSight, IsSoundView}
 use Rattle.table_rows.specs.Rule.{World, StandsIn, AreCounted, CallerKnows}
 use Rattle.table_rows.proofs.Fronts.{Row}
 use Rattle.table_rows.proofs.Standing.{known_at, known_length}
@@ -35,8 +35,8 @@ take_take (suc i) (suc n) (x ∷ xs) h = ap (λ (t : List _). x ∷ t) (take_tak
 
 pub good_front : (p : Parameters) (log : List (List ℕ)) (n : ℕ) → n ≤ length log → IsGood p log → IsGood p (take n log)
 good_front p log n h good = λ i lt. let small : i < n = subst (λ (m : ℕ). i < m) (length-take-le n log h) lt in
-    subst (λ (t : List (List ℕ)). IsNext p t (get_or (take n log) i [])) (sym (take_take i n log (omega arith)))
-    (subst (λ (r : List ℕ). IsNext p (take i log) r) (sym (get_or-take n log i [] small)) (good i (omega arith)))
+    subst (λ (t : List (List ℕ)). IsNextRegion p t (get_or (take n log) i [])) (sym (take_take i n log (omega arith)))
+    (subst (λ (r : List ℕ). IsNextRegion p (take i log) r) (sym (get_or-take n log i [] small)) (good i (omega arith)))
 
 pub offers_append : (number n : ℕ) (xs ys : List (List ℕ)) → offers_from number n (xs ++ ys) ≡ offers_from number n xs ++ offers_from number (n + length xs) ys
 offers_append number n [] ys = ap (λ (m : ℕ). offers_from number m ys) (omega arith)
@@ -128,7 +128,7 @@ module _ (p : Parameters) (w : World) (counted : AreCounted p w) where
         wide = stands.wide;
       })
 
-  pub sounds : (words : List ℕ) (seat : ℕ) (v : CallerView) → CallerKnows p w words seat v → IsSound v
+  pub sounds : (words : List ℕ) (seat : ℕ) (v : CallerView) → CallerKnows p w words seat v → IsSoundView v
   sounds words seat v knows =
       let s : Sight = v.sight in
       let same : s.parameters ≡ p = knows.sight.parameters in
@@ -137,7 +137,7 @@ module _ (p : Parameters) (w : World) (counted : AreCounted p w) where
       let few : length w.dir ≤ p.k = counted.short in
       let logged : length w.log ≡ length w.dir = counted.logged in
       let to : v.draft ≤ p.passes + length w.dir = knows.draft_to in
-      subst (λ (q : Parameters). IsSound (record v { sight = record s { parameters = q } })) (sym same) (record {
+      subst (λ (q : Parameters). IsSoundView (record v { sight = record s { parameters = q } })) (sym same) (record {
         shaped = record {
           sight = sight_shaped (record s { parameters = p }) refl stands;
           draft = (knows.draft_from, omega arith);

@@ -11,7 +11,7 @@ use Rattle.linear_spec.specs.Cases.{IsFresh}
 use Rattle.linear_spec.specs.Rows.{StandsFor, StandForAll, IsRowOf, first_nonzero, pivot_of, remainder_of}
 use Rattle.table_rows.specs.declared.view.Parameters.{Parameters}
 use Rattle.table_rows.specs.Layout.{length_of, pivot_in, pivots_of_words, records_of_words, rows_of_words}
-use Rattle.table_rows.specs.Good.{HasRecord, IsNext, packet_at, row_at}
+use Rattle.table_rows.specs.Good.{HasRecord, IsNextRegion, packet_at, row_at}
 use Rattle.table_rows.specs.Worked.{IsSmall}
 
 -- what the laws of rows say
@@ -68,8 +68,8 @@ record_next : Laws → (p : Parameters) → IsSmall p → (before : List (List �
     → packet_at (as_small p) region ≡ small p.generation c0 c1 x → row_at (as_small p) region ≡ small p.generation c0 c1 x
     → pivot_in region ≡ first_nonzero (c0 ∷ c1 ∷ []) → slice_index (c0 ∷ c1 ∷ []) (first_nonzero (c0 ∷ c1 ∷ [])) ≡ 1 → c0 ∷ c1 ∷ [] ≢ 0 ∷ 0 ∷ []
     → All (Fits 2 1) (map (packet_at (as_small p)) before) → StandForAll 2 1 (map (packet_at (as_small p)) before) (map (row_at (as_small p)) before)
-    → remainder_of (map (row_at (as_small p)) before) (c0 ∷ c1 ∷ x ∷ []) ≡ c0 ∷ c1 ∷ x ∷ [] → IsNext p before region
-unfolding IsNext
+    → remainder_of (map (row_at (as_small p)) before) (c0 ∷ c1 ∷ x ∷ []) ≡ c0 ∷ c1 ∷ x ∷ [] → IsNextRegion p before region
+unfolding IsNextRegion
 record_next laws p is before region c0 c1 x h0 h1 h packet row pivot one some fit stand left =
     let q : Parameters = as_small p in
     let front : List Packet = map (packet_at q) before in
@@ -99,20 +99,20 @@ alone laws g c0 c1 x h0 h1 h one = let it : Packet = small g c0 c1 x in
     laws.joins 2 1 [] [] it it (laws.none 2 1)
     (laws.stands 2 1 [] [] it it (All-nil (Fits 2 1)) (small_fits g c0 c1 x h0 h1 h) (laws.none 2 1) (own_row laws.field g c0 c1 x [] h0 h1 h refl one))
 
-pub first_alone : Laws → (p : Parameters) → IsSmall p → IsNext p [] first_words
+pub first_alone : Laws → (p : Parameters) → IsSmall p → IsNextRegion p [] first_words
 first_alone laws p is = record_next laws p is [] first_words 1 0 24930 (omega arith) (omega arith) (omega arith) refl refl refl refl (λ e. cc) (All-nil (Fits 2 1)) (laws.none 2 1) refl
 
-pub second_alone : Laws → (p : Parameters) → IsSmall p → IsNext p [] second_words
+pub second_alone : Laws → (p : Parameters) → IsSmall p → IsNextRegion p [] second_words
 second_alone laws p is = record_next laws p is [] second_words 0 1 25344 (omega arith) (omega arith) (omega arith) refl refl refl refl (λ e. cc) (All-nil (Fits 2 1)) (laws.none 2 1) refl
 
-pub first_after : Laws → (p : Parameters) → IsSmall p → IsNext p (second_words ∷ []) first_words
+pub first_after : Laws → (p : Parameters) → IsSmall p → IsNextRegion p (second_words ∷ []) first_words
 first_after laws p is = let g : ℕ = p.generation in
     record_next laws p is (second_words ∷ []) first_words 1 0 24930 (omega arith) (omega arith) (omega arith) refl refl refl refl (λ e. cc)
     (All-cons (Fits 2 1) (small g 0 1 25344) [] (small_fits g 0 1 25344 (omega arith) (omega arith) (omega arith)) (All-nil (Fits 2 1)))
     (alone laws g 0 1 25344 (omega arith) (omega arith) (omega arith) refl)
     (left_alone laws.field 1 0 24930 0 1 25344)
 
-pub second_after : Laws → (p : Parameters) → IsSmall p → IsNext p (first_words ∷ []) second_words
+pub second_after : Laws → (p : Parameters) → IsSmall p → IsNextRegion p (first_words ∷ []) second_words
 second_after laws p is = let g : ℕ = p.generation in
     record_next laws p is (first_words ∷ []) second_words 0 1 25344 (omega arith) (omega arith) (omega arith) refl refl refl refl (λ e. cc)
     (All-cons (Fits 2 1) (small g 1 0 24930) [] (small_fits g 1 0 24930 (omega arith) (omega arith) (omega arith)) (All-nil (Fits 2 1)))

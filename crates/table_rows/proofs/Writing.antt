@@ -118,5 +118,6 @@ writes slots seat at place x v lp there s rule _ sits _ =
         refl,
         (λ q lq there'. let one = one_place p.k p.s v.draft v.draft place q knows.draft_from knows.draft_from lp lq (sym there ∙ there') in ap (λ (i : ℕ). after_write v i x) one.1),
         sounds p w rule.counted (set s.words (place_of p.k p.s v.draft place) x) seat (after_write v place x) now,
+        record { place = place; within = lp; word_is = there },
       ),
     )

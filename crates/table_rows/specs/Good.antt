@@ -26,12 +26,12 @@ pub record HasRecord (p : Parameters) (before : List (List ℕ)) (region : List 
   pub pivot : pivot_in region ≡ pivot_of (row_at p region)
 
 -- the same, as steps see it that do not look into records
-unfoldable pub IsNext : Parameters → List (List ℕ) → List ℕ → Type 0
-IsNext p before region = HasRecord p before region
+unfoldable pub IsNextRegion : Parameters → List (List ℕ) → List ℕ → Type 0
+IsNextRegion p before region = HasRecord p before region
 
 -- each region has a record that may come after those before it
 abbrev pub IsGood : Parameters → List (List ℕ) → Type 0
-IsGood p regions = (n : ℕ) → n < length regions → IsNext p (take n regions) (slice_index_or regions n [])
+IsGood p regions = (n : ℕ) → n < length regions → IsNextRegion p (take n regions) (slice_index_or regions n [])
 
 -- position and call of each record of a caller, in regions of which the first has this position
 abbrev pub offers_from : ℕ → ℕ → List (List ℕ) → List (ℕ × ℕ)

@@ -5,4 +5,6 @@ pub mod Steps
 pub mod Rule
 pub mod Seats
 pub mod Closing
+pub mod StepLaws
+pub mod RegionLaws
 pub mod Worked

@@ -81,7 +81,7 @@ pub record IsCaller (v : CallerView) : Type 0 where
 
 -- what a step tells of a sight: fronts that were brought together are parts of its own; and where all its regions were read,
 -- their records are good, the own list is that of the caller's records, and each names a caller that has a number
-pub record IsSound (v : CallerView) : Type 0 where
+pub record IsSoundView (v : CallerView) : Type 0 where
   pub shaped : IsCaller v
   pub olds : All (λ old. IsPartOf old v.sight.front) v.sight.olds
   pub good : IsReadWhole v.sight.front → IsGood v.sight.parameters (words_read v.sight.front)
@@ -89,30 +89,52 @@ pub record IsSound (v : CallerView) : Type 0 where
   pub callers : IsReadWhole v.sight.front
       → All (λ region. caller_in region < v.sight.parameters.passes) (words_read v.sight.front)
 
+-- the words that a caller may load, store or exchange: the next of the directory, a word of a region that it knows, of its draft
+abbrev pub IsNextWord : CallerView → ℕ → Type 0
+IsNextWord v word = (word ≡ length v.sight.front.known) × (word < v.sight.parameters.k)
+
+pub record IsKnownWord (v : CallerView) (word : ℕ) : Type 0 where
+  pub n : ℕ
+  pub place : ℕ
+  pub known : n < length v.sight.front.known
+  pub within : place < width_of v.sight.parameters
+  pub word_is : word ≡ place_of v.sight.parameters.k v.sight.parameters.s (slice_index v.sight.front.known n) place
+
+pub record IsDraftWord (v : CallerView) (word : ℕ) : Type 0 where
+  pub place : ℕ
+  pub within : place < width_of v.sight.parameters
+  pub word_is : word ≡ place_of v.sight.parameters.k v.sight.parameters.s v.draft place
+
 module _ {S : Type 0} where
-  -- a step of a caller: it is a caller afterwards, its view changed in a way that this allows, and is sound
-  abbrev pub CallerSteps : Me S View → Me S View → (CallerView → CallerView → Type 0) → Type 0
-  CallerSteps before after next =
-      (after ≡ (Caller (as_caller after.0), [])) × next (as_caller before.0) (as_caller after.0) × IsSound (as_caller after.0)
+  -- a step of a caller: it is a caller afterwards, its view changed in a way that this allows, and is sound; and its word is one
+  -- that it may access
+  abbrev pub CallerSteps : Me S View → Me S View → (CallerView → CallerView → Type 0) → (CallerView → Type 0) → Type 0
+  CallerSteps before after next access =
+      (after ≡ (Caller (as_caller after.0), [])) × next (as_caller before.0) (as_caller after.0) × IsSoundView (as_caller after.0)
+      × access (as_caller before.0)
 
   abbrev pub looked : Step S → Me S View → ℕ → Me S View → Type 0
   looked step before found after = CallerSteps before after (λ v w.
-      (found ≡ 0 → w ≡ after_empty v) × (found ≢ 0 → w ≡ after_found v found))
+      (found ≡ 0 → w ≡ after_empty v) × (found ≢ 0 → w ≡ after_found v found)) (λ v. IsNextWord v step.word)
 
   abbrev pub was_read : Step S → Me S View → ℕ → Me S View → Type 0
   was_read step before found after = CallerSteps before after (λ v w.
       (n place : ℕ) → n < length v.sight.front.known → place < width_of v.sight.parameters
       → step.word ≡ place_of v.sight.parameters.k v.sight.parameters.s (slice_index v.sight.front.known n) place
       → (w ≡ after_read v n place found) × ((word : ℕ) → word_read v.sight.front.read n place ≡ Some word → found ≡ word))
+      (λ v. IsKnownWord v step.word)
 
   abbrev pub wrote : Step S → Me S View → ℕ → Me S View → Type 0
   wrote step before found after = CallerSteps before after (λ v w.
       (place : ℕ) → place < width_of v.sight.parameters
       → step.word ≡ place_of v.sight.parameters.k v.sight.parameters.s v.draft place → w ≡ after_write v place found)
+      (λ v. IsDraftWord v step.word)
 
+  -- from 0 to the own draft
   abbrev pub exchanged : Step S → Me S View → ℕ → Me S View → Type 0
   exchanged step before found after = CallerSteps before after (λ v w.
       (found ≡ 0 → w ≡ after_win v) × (found ≢ 0 → w ≡ after_found v found))
+      (λ v. IsNextWord v step.word × (step.first ≡ 0) × (step.second ≡ v.draft))
 
 -- how a view is cut in two, and how two are made one
 abbrev pub number_left : View → View

@@ -1,3 +1,5 @@
+//! The answer of an exchange.
+
 /// What an exchange of a directory word found.
 #[derive(Clone, Copy, Debug, PartialEq, Eq)]
 pub enum Exchanged {

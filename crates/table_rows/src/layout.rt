@@ -3,18 +3,20 @@ ghost use Rattle.std.specs.Prelude.{◌≡◌, ◌+◌, ◌*◌, ◌^◌, ◌<�
 ghost use Rattle.table_rows.specs.Layout.{basis_length, packed_of, region_length, symbols_in, words_for};
 
 /// How many words a number of symbols takes.
-pub(crate) fn words_for_symbols(symbols: u16) -> u64
+pub fn words_for_symbols(symbols: usize) -> usize
+    requires { symbols < 2 ^ 63 }
     ensures { result ≡ words_for symbols }
 {
-    (u64::from(symbols) + 3) / 4
+    (symbols + 3) / 4
 }
 
 /// The number of words of a region.
-pub(crate) fn words_of_region(k: u16, s: u16) -> u64
+pub fn words_of_region(k: u16, s: u16) -> u64
     ensures value { result ≡ region_length k s }
     ensures bound { result < 2 ^ 17 }
 {
-    2 + 2 * (words_for_symbols(k) + words_for_symbols(s))
+    let half = words_for_symbols(usize::from(k)) + words_for_symbols(usize::from(s));
+    2 + 2 * half as u64
 }
 
 /// The number of words of a basis of packets with `k` coefficients and `s` payload symbols, for so many callers.

@@ -18,7 +18,7 @@ mod table;
 pub mod view;
 
 pub use exchange::Exchanged;
-pub use layout::{pack, unpack, words_of_basis};
+pub use layout::{pack, unpack, words_for_symbols, words_of_basis, words_of_region};
 pub use seats::{CallerSeat, FounderSeat, NoteSeat};
 pub use table::{BasisTable, Opened};
 

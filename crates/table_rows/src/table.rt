@@ -2,11 +2,11 @@
 ghost use Rattle.std.specs.Prelude.{ℕ, Some, ◌≡◌, ◌≢◌, ◌+◌, ◌*◌, ◌^◌, ◌<◌, ◌≤◌, [], ◌∷◌, length, slice_index, replicate, IfOk};
 ghost use Rattle.table_rows.specs.declared.view.View.TheVariants.{Founder};
 ghost use Rattle.linear_spec.specs.Passing.{AreEquations};
-ghost use Rattle.table_rows.specs.Good.{IsNext};
+ghost use Rattle.table_rows.specs.Good.{IsNextRegion};
 ghost use Rattle.table_rows.specs.Layout.{basis_length, call_in, caller_in, place_of};
 ghost use Rattle.table_rows.specs.Rule.{TableRule};
 ghost use Rattle.table_rows.specs.Seats.{IsCallerAt, IsExchanged, IsFounderAt, IsMadeWith, IsTable, TableValue};
-ghost use Rattle.table_rows.specs.Steps.{IsSound, draft_words, after_empty, after_found, after_number, after_read, after_write};
+ghost use Rattle.table_rows.specs.Steps.{IsSoundView, draft_words, after_empty, after_found, after_number, after_read, after_write};
 ghost use Rattle.table_rows.specs.Views.{IsReadWhole, IsWhole, first_founder, new_caller, width_of, word_read, words_read};
 
 use crate::exchange::Exchanged;
@@ -99,7 +99,7 @@ impl BasisTable {
         ensures seat { IsCallerAt self.now seat.new }
         ensures found { result ≢ 0 → seat.new.view ≡ after_found seat.old.view result }
         ensures empty { result ≡ 0 → seat.new.view ≡ after_empty seat.old.view }
-        ensures sound { IsSound seat.new.view }
+        ensures sound { IsSoundView seat.new.view }
     {
         let at = usize::from(n);
         self.table.shared.load::<Look>(&mut seat.seat, at)
@@ -113,7 +113,7 @@ impl BasisTable {
         ensures seat { IsCallerAt self.now seat.new }
         ensures read { seat.new.view ≡ after_read seat.old.view n place result }
         ensures again { (word : ℕ) → word_read seat.old.view.sight.front.read n place ≡ Some word → result ≡ word }
-        ensures sound { IsSound seat.new.view }
+        ensures sound { IsSoundView seat.new.view }
     {
         let own = &mut seat.seat;
         let at = self.place(region, place);
@@ -127,7 +127,7 @@ impl BasisTable {
         requires place { place < width_of self.now.parameters }
         ensures seat { IsCallerAt self.now seat.new }
         ensures written { seat.new.view ≡ after_write seat.old.view place word }
-        ensures sound { IsSound seat.new.view }
+        ensures sound { IsSoundView seat.new.view }
     {
         let own = &mut seat.seat;
         let at = self.place(draft, place);
@@ -143,10 +143,10 @@ impl BasisTable {
         requires next { (n ≡ length seat.old.view.sight.front.known) × (n < self.now.parameters.k) }
         requires named { (caller_in (draft_words seat.old.view) ≡ seat.old.view.number) × (call_in (draft_words seat.old.view) ≡ call) }
         requires read { IsReadWhole seat.old.view.sight.front }
-        requires good { IsNext self.now.parameters (words_read seat.old.view.sight.front) (draft_words seat.old.view) }
+        requires good { IsNextRegion self.now.parameters (words_read seat.old.view.sight.front) (draft_words seat.old.view) }
         ensures seat { IsCallerAt self.now seat.new }
         ensures exchanged { IsExchanged seat.old.view seat.new.view result }
-        ensures sound { IsSound seat.new.view }
+        ensures sound { IsSoundView seat.new.view }
     {
         let _ = call;
         let found = self

@@ -1,6 +1,7 @@
+//! Tables of a few words, by one caller and by two on threads of their own.
 ghost use Rattle.std.specs.Prelude.{◌≡◌, ◌<◌, [], ◌∷◌, Some, length, map, slice_index, IfOk};
 ghost use Rattle.linear_spec.specs.Passing.{AreEquations};
-ghost use Rattle.table_rows.specs.Good.{IsNext};
+ghost use Rattle.table_rows.specs.Good.{IsNextRegion};
 ghost use Rattle.table_rows.specs.Layout.{call_in, caller_in};
 ghost use Rattle.table_rows.specs.Seats.{IsCallerAt, IsExchanged};
 ghost use Rattle.table_rows.specs.Views.{first_founder, new_caller, width_of};
@@ -95,8 +96,8 @@ fn put_in(
     requires seat { IsCallerAt table.now seat × IsSmall table.now.parameters }
     requires new { (seat.view ≡ new_caller table.now.parameters seat.view.number) × (draft ≡ seat.view.draft) }
     requires named { (caller_in mine.now ≡ seat.view.number) × (call_in mine.now ≡ 0) }
-    requires first { IsNext table.now.parameters [] mine.now }
-    requires second { IsNext table.now.parameters (other.now ∷ []) mine.now }
+    requires first { IsNextRegion table.now.parameters [] mine.now }
+    requires second { IsNextRegion table.now.parameters (other.now ∷ []) mine.now }
     ensures seat { IsCallerAt table.now result.1 × (result.1.view.number ≡ seat.view.number) }
 {
     write_all(table, &mut seat, draft, mine);

@@ -1,6 +1,6 @@
 use Rattle.std.proofs.Common.{◌≡◌, ◌+◌, [], drop, get_or, take}
 use Rattle.table_rows.specs.Seats.{IsCallerAt}
-use Rattle.table_rows.specs.Steps.{IsSound}
+use Rattle.table_rows.specs.Steps.{IsSoundView}
 use Rattle.table_rows.specs.Views.{words_read}
 use Rattle.shared_basis.proofs.drafts.read_rest.Given as goal
 
@@ -10,5 +10,5 @@ invariant-loop-place l = record {
   seat : IsCallerAt l.table l.seat;
   view : l.seat.view ≡ record l.fn.seat.view { reads = l.fn.seat.view.reads + l.place };
   words : take l.place l.words ≡ take l.place (drop l.from (get_or (words_read l.fn.seat.view.sight.front) l.n []));
-  sound : IsSound l.seat.view;
+  sound : IsSoundView l.seat.view;
 }

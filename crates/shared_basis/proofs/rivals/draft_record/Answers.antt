@@ -2,7 +2,7 @@ use Rattle.std.proofs.Common.{rules, ◌≡◌, ℕ, ◌^◌, ◌<◌, ◌≤◌
 use Rattle.std.proofs.lemmas.List.{length-map}
 use Rattle.gf16.specs.Field.{IsSymbol, product_of}
 use Rattle.shared_basis.specs.Regions.{record_at, regions_seen}
-use Rattle.table_rows.specs.Good.{IsNext}
+use Rattle.table_rows.specs.Good.{IsNextRegion}
 use Rattle.shared_basis.proofs.DraftLemmas.{IsReduced, Laws, draft_is_next, has_room, is_fresh, record_is}
 use Rattle.shared_basis.proofs.RivalLemmas.{known_count}
 use Rattle.shared_basis.proofs.rivals.draft_record.Goals as goal
@@ -50,7 +50,7 @@ returns c =
       named = subst (λ (w : List ℕ). record_at p w ≡ record { caller = c.args.number; call = c.args.call; packet = c.args.packet.now }) (sym words)
           (record_is laws p regions c.args.packet.now d.left is e.row inverse c.args.number c.args.call symbol c.requires.inverse
           c.make_draft.ensures.coeffs c.make_draft.ensures.payload few);
-      next = subst (λ (w : List ℕ). IsNext p regions w) (sym words)
+      next = subst (λ (w : List ℕ). IsNextRegion p regions w) (sym words)
           (draft_is_next laws p regions c.args.packet.now d.left is e.row inverse c.args.number c.args.call symbol c.requires.inverse
           c.make_draft.ensures.coeffs c.make_draft.ensures.payload few);
       row = record {

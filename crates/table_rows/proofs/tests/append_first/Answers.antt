@@ -2,7 +2,7 @@ use Rattle.std.proofs.Common.{map, sym, ap, ◌∙◌, subst}
 use Rattle.std.specs.Prelude.{Some}
 use Rattle.table_rows.specs.declared.view.CallerView.{CallerView}
 use Rattle.table_rows.specs.declared.view.Parameters.{Parameters}
-use Rattle.table_rows.specs.Good.{IsNext}
+use Rattle.table_rows.specs.Good.{IsNextRegion}
 use Rattle.table_rows.specs.Steps.{draft_words}
 use Rattle.table_rows.specs.Views.{words_read}
 use Rattle.table_rows.proofs.WorkedRecords.{Laws, first_alone, first_words}
@@ -19,4 +19,4 @@ append-requires-clause-good c =
     } in
     let p : Parameters = c.args.table.now.parameters in
     let e = c.write_all.ensures.written ∙ ap (λ (u : CallerView). record u { written = map Some first_words }) c.requires.new in
-    subst (λ (u : CallerView). IsNext p (words_read u.sight.front) (draft_words u)) (sym e) (first_alone laws p c.requires.seat.1)
+    subst (λ (u : CallerView). IsNextRegion p (words_read u.sight.front) (draft_words u)) (sym e) (first_alone laws p c.requires.seat.1)

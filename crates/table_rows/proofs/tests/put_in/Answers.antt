@@ -5,7 +5,7 @@ use Rattle.std.proofs.lemmas.Slice.Eq.{bytes_eq-Decides}
 use Rattle.std.proofs.lemmas.List.Elements.{All-cons, All-nil}
 use Rattle.table_rows.specs.declared.view.CallerView.{CallerView}
 use Rattle.table_rows.specs.declared.view.Parameters.{Parameters}
-use Rattle.table_rows.specs.Good.{IsNext}
+use Rattle.table_rows.specs.Good.{IsNextRegion}
 use Rattle.table_rows.specs.Steps.{after_found, draft_words}
 use Rattle.table_rows.specs.Views.{IsReadWhole, IsWhole, new_caller, words_read}
 use Rattle.table_rows.specs.Worked.{with_row}
@@ -22,8 +22,8 @@ append-requires-clause-good c =
     let p : Parameters = c.args.table.now.parameters in
     let mine : List ℕ = c.args.mine.now in
     let e = c.write_all.ensures.written ∙ ap (λ (u : CallerView). record u { written = map Some mine }) c.requires.new.0 in
-    subst (λ (u : CallerView). IsNext p (words_read u.sight.front) (draft_words u)) (sym e)
-    (subst (λ (l : List ℕ). IsNext p [] l) (sym (words_of_some mine)) c.requires.first)
+    subst (λ (u : CallerView). IsNextRegion p (words_read u.sight.front) (draft_words u)) (sym e)
+    (subst (λ (l : List ℕ). IsNextRegion p [] l) (sym (words_of_some mine)) c.requires.first)
 
 pub append-requires-2-clause-draft : goal.append-requires-2-clause-draft
 append-requires-2-clause-draft c =
@@ -49,6 +49,6 @@ append-requires-2-clause-good c =
     ∙ (ap (λ (u : CallerView). with_row (after_found u c.in-Lost.region) 0 found) c.write_all.ensures.written
     ∙ ap (λ (u : CallerView). with_row (after_found (record u { written = map Some mine }) c.in-Lost.region) 0 found) c.requires.new.0)) in
     let same : found ≡ c.args.other.now = (bytes_eq-Decides found c.args.other.now).0 (not-false (bytes_eq found c.args.other.now) (sym c.if-ne.ensures)) in
-    subst (λ (u : CallerView). IsNext p (words_read u.sight.front) (draft_words u)) (sym e)
-    (subst (λ (l : List ℕ). IsNext p (l ∷ []) (draft_words (record (new_caller p c.args.seat.view.number) { written = map Some mine }))) (sym (words_of_some found))
-    (subst (λ (l : List ℕ). IsNext p (found ∷ []) l) (sym (words_of_some mine)) (subst (λ (l : List ℕ). IsNext p (l ∷ []) mine) (sym same) c.requires.second)))
+    subst (λ (u : CallerView). IsNextRegion p (words_read u.sight.front) (draft_words u)) (sym e)
+    (subst (λ (l : List ℕ). IsNextRegion p (l ∷ []) (draft_words (record (new_caller p c.args.seat.view.number) { written = map Some mine }))) (sym (words_of_some found))
+    (subst (λ (l : List ℕ). IsNextRegion p (found ∷ []) l) (sym (words_of_some mine)) (subst (λ (l : List ℕ). IsNextRegion p (l ∷ []) mine) (sym same) c.requires.second)))

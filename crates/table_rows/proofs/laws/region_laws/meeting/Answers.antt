@@ -9,10 +9,10 @@ use Rattle.table_rows.proofs.laws.region_laws.meeting.Goals as goal
 same_parameters : (a b : Sight) → b.parameters ≡ a.parameters → IsSight b → IsSight (record { parameters = a.parameters; front = b.front; olds = b.olds })
 same_parameters a b same sight = subst (λ (q : Parameters). IsSight (record { parameters = q; front = b.front; olds = b.olds })) same sight
 
-pub returns-clause-first : goal.returns-clause-first
-returns-clause-first c = λ a b same sa sb whole part le. let sb' = same_parameters a b same sb in
-    joined_left (width_of a.parameters) a.front b.front (sa.rows, sa.wide) (sb'.rows, sb'.wide) whole part le
-
-pub returns-clause-second : goal.returns-clause-second
-returns-clause-second c = λ a b same sa sb whole part lt. let sb' = same_parameters a b same sb in
-    joined_right (width_of a.parameters) a.front b.front (sa.rows, sa.wide) (sb'.rows, sb'.wide) whole part lt
+pub returns : goal.returns
+returns c = record {
+  first = λ a b same sa sb whole part le. let sb' = same_parameters a b same sb in
+      joined_left (width_of a.parameters) a.front b.front (sa.rows, sa.wide) (sb'.rows, sb'.wide) whole part le;
+  second = λ a b same sa sb whole part lt. let sb' = same_parameters a b same sb in
+      joined_right (width_of a.parameters) a.front b.front (sa.rows, sa.wide) (sb'.rows, sb'.wide) whole part lt;
+}

@@ -1,7 +1,7 @@
 use Rattle.std.proofs.Common.{◌≡◌, ℕ, ◌<◌, length, sym, ap, ◌∙◌, subst}
 use Rattle.table_rows.specs.declared.view.CallerView.{CallerView}
 use Rattle.table_rows.specs.declared.view.Parameters.{Parameters}
-use Rattle.table_rows.specs.Good.{IsNext}
+use Rattle.table_rows.specs.Good.{IsNextRegion}
 use Rattle.table_rows.specs.Layout.{caller_in}
 use Rattle.table_rows.specs.Seats.{SeatValue, TableValue}
 use Rattle.table_rows.specs.Steps.{draft_words}
@@ -18,9 +18,9 @@ compare_exchange-found-requires c =
     let ours : c.args.self.now.parameters ≡ key = sym (ap (λ (t : TableValue). t.parameters) c.self.view_is) in
     let next : c.from.result ≡ length v.sight.front.known = c.from.ensures ∙ (c.requires.next.0 ∙ ap (λ (u : CallerView). length u.sight.front.known) seen) in
     let small : c.from.result < key.k = subst (λ (n : ℕ). n < key.k) (sym c.from.ensures) (subst (λ (q : Parameters). c.args.n < q.k) ours c.requires.next.1) in
-    let good : IsNext key (words_read v.sight.front) (draft_words v) =
-    subst (λ (u : CallerView). IsNext key (words_read u.sight.front) (draft_words u)) seen
-    (subst (λ (q : Parameters). IsNext q (words_read c.args.seat.now.view.sight.front) (draft_words c.args.seat.now.view)) ours c.requires.good) in (
+    let good : IsNextRegion key (words_read v.sight.front) (draft_words v) =
+    subst (λ (u : CallerView). IsNextRegion key (words_read u.sight.front) (draft_words u)) seen
+    (subst (λ (q : Parameters). IsNextRegion q (words_read c.args.seat.now.view.sight.front) (draft_words c.args.seat.now.view)) ours c.requires.good) in (
       one.0,
       directory_inside key c.self.inside.k c.self.inside.s _ c.from.result c.self.invariant.same_k c.self.invariant.words small,
       exchange_allowed key _ _ c.from.result c.args.draft c.seat.inside.seat.me c.seat.invariant.0 one.1 next small
