@@ -9,9 +9,7 @@ pub mod LookLemmas
 pub mod MeetLemmas
 pub mod MetPassLemmas
 pub mod NewPassLemmas
-pub mod PackLemmas
 pub mod PassLemmas
-pub mod RegionLemmas
 pub mod RivalLemmas
 pub mod Sent
 pub mod SmallLemmas

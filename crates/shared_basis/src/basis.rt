@@ -1,6 +1,6 @@
+//! A basis, and how it is made with its passes.
 ghost use Rattle.std.specs.Prelude.{◌≡◌, ◌<◌, ◌≤◌, ◌^◌, length, IfOk};
 ghost use Rattle.linear_spec.specs.Passing.{AreEquations};
-ghost use Rattle.table_rows.specs.Layout.{region_length};
 ghost use Rattle.table_rows.specs.Seats.{IsMadeWith};
 ghost use Rattle.table_rows.specs.Views.{first_founder, new_caller};
 ghost use Rattle.shared_basis.specs.Bases.{AreParameters, HasFounder, IsBasis};
@@ -12,7 +12,7 @@ use gf16::Memory;
 use linear_spec::{Equations, List, Packet, SymVec};
 use std::alloc::Global;
 use std::marker::Model;
-use table_rows::{BasisTable, CallerSeat, FounderSeat, Opened};
+use table_rows::{BasisTable, CallerSeat, FounderSeat, Opened, words_of_region};
 
 /// The basis of one generation at one peer, which threads share by `&`.
 #[derive(Drop)]
@@ -130,7 +130,7 @@ fn new_pass(
     basis_core::laws::histories();
     let mut known = List::new(alloc);
     known.reserve(usize::from(params.k))?;
-    let width = width_of_region(params.k, params.s);
+    let width = words_of_region(params.k, params.s) as usize;
     let words = Vec::from_elem(alloc, 0u64, width)?;
     let left = zero_packet(alloc, params)?;
     let row = zero_packet(alloc, params)?;
@@ -154,13 +154,6 @@ fn new_pass(
         offered,
         spare: room,
     })
-}
-
-/// The number of words of a region.
-fn width_of_region(k: u16, s: u16) -> usize
-    ensures { result ≡ region_length k s }
-{
-    2 + 2 * ((usize::from(k) + 3) / 4 + (usize::from(s) + 3) / 4)
 }
 
 /// A packet of zeros.

@@ -4,8 +4,8 @@ ghost use Rattle.table_rows.specs.Layout.{record_in, records_of_words, region_le
 ghost use Rattle.shared_basis.specs.Decoding.{AreBlanksFor, HaveRegions};
 
 use crate::Params;
-use crate::regions::{take_packet, take_row};
 use linear_spec::{List, Packet, Record};
+use table_rows::{take_packet, take_row, words_of_region};
 
 /// Appends the records and the rows of words that have the regions of their directory. It fills the packets, the last one first.
 pub(crate) fn decode_all(
@@ -39,7 +39,7 @@ fn region_at<'a>(params: &Params, words: &'a [u64], region: u64) -> &'a [u64]
     ensures count { length result.now ≡ region_length params.now.k params.now.s }
     ensures value { result.now ≡ region_of params.now.k params.now.s words.now region }
 {
-    let width = 2 + 2 * ((usize::from(params.k) + 3) / 4 + (usize::from(params.s) + 3) / 4);
+    let width = words_of_region(params.k, params.s) as usize;
     let start = usize::from(params.k) + (region as usize - 1) * width;
     &words[start..start + width]
 }

@@ -21,9 +21,7 @@ mod offering;
 mod params;
 mod pass;
 mod reading;
-mod regions;
 mod rivals;
-mod symbols;
 
 pub use basis::SharedBasis;
 pub use params::{CloseRefused, Closed, Created, Params};

@@ -10,8 +10,7 @@ ghost use Rattle.shared_basis.specs.Regions.{HasFound, HasLookedOn, regions_seen
 
 use crate::desk::Desk;
 use crate::drafts::{read_region, read_rest};
-use crate::regions::take_symbols;
-use table_rows::BasisTable;
+use table_rows::{BasisTable, take_symbols};
 
 /// Takes in a region that a step has just found, and reads it: its words are the desk's afterwards.
 pub(crate) fn learn(table: &BasisTable, desk: &mut Desk, region: u64)

@@ -9,11 +9,11 @@ ghost use Rattle.shared_basis.specs.Passes.{HasKept, IsPassOf};
 
 use crate::columns::mark_missing;
 use crate::looking::read_again;
-use crate::regions::{take_packet, take_row};
 use crate::{Pass, SharedBasis};
 use gf_lanes::add_scaled;
 use gf16::Gf;
 use linear_spec::Packet;
+use table_rows::{take_packet, take_row};
 
 impl SharedBasis {
     /// Writes the packet of record `n` into `out`, its generation too.

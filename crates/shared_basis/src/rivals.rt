@@ -22,11 +22,10 @@ use crate::columns::pivot_again;
 use crate::desk::Desk;
 use crate::drafts::write_draft;
 use crate::looking::{learn, row_again};
-use crate::regions::{lay_out, take_row};
 use basis_core::reduction::{inverse_of_first, is_zero, place_of_first, reduce_by, scale};
 use gf16::Gf;
 use linear_spec::{Packet, Reply};
-use table_rows::{BasisTable, Exchanged};
+use table_rows::{BasisTable, Exchanged, lay_out, take_row};
 
 /// Answers a passing packet as the call of this number: it is reduced by all rows that were seen, and then appended, or reduced
 /// by the row that came in between, until it is appended or refused.

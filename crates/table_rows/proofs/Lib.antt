@@ -21,4 +21,6 @@ pub mod Packing
 pub mod Longer
 pub mod GoodRecords
 pub mod Again
+pub mod SymbolWords
+pub mod RegionWords
 pub mod Calls

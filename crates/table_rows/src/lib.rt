@@ -12,13 +12,16 @@ mod exchange;
 pub mod laws;
 mod layout;
 mod meeting;
+mod regions;
 mod rule;
 mod seats;
+mod symbols;
 mod table;
 pub mod view;
 
 pub use exchange::Exchanged;
 pub use layout::{pack, unpack, words_for_symbols, words_of_basis, words_of_region};
+pub use regions::{lay_out, take_packet, take_row, take_symbols};
 pub use seats::{CallerSeat, FounderSeat, NoteSeat};
 pub use table::{BasisTable, Opened};
 

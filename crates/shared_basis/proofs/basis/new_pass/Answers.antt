@@ -15,7 +15,7 @@ invariant_of-result c =
     new_pass_is c.histories.ensures.none _ _ p c.args.number _ _ _ _
     basis.parameters c.requires.seat below c.requires.founder (ap (λ n. n + 1) c.from-2.ensures)
     (c.in_ok-reserve.ensures.items ∙ c.new-known.ensures) room (c.in_ok-words.ensures.len
-    ∙ c.width_of_region-width.ensures ∙ width) narrow
+    ∙ c.words_of_region-width.ensures.value ∙ width) narrow
     (record { coeffs = c.in_ok-left.ensures.lengths.0 ∙ basis.k; payload = c.in_ok-left.ensures.lengths.1 ∙ basis.s })
     (record { coeffs = c.in_ok-row.ensures.lengths.0 ∙ basis.k; payload = c.in_ok-row.ensures.lengths.1 ∙ basis.s })
     (c.in_ok-reserve-2.ensures.items ∙ c.new-calls.ensures)

@@ -2,8 +2,8 @@ use Rattle.std.proofs.Common.{◌≡◌, ℕ, ◌+◌, ◌-◌, ◌*◌, ◌^◌
 use Rattle.std.proofs.lemmas.List.{append_assoc, length-set}
 use Rattle.linear_spec.specs.declared.packet.Packet.{Packet}
 use Rattle.table_rows.specs.Layout.{packed_words_of, region_length}
-use Rattle.shared_basis.proofs.RegionLemmas.{behind_two}
-use Rattle.shared_basis.proofs.regions.lay_out.Goals as goal
+use Rattle.table_rows.proofs.RegionWords.{behind_two}
+use Rattle.table_rows.proofs.regions.lay_out.Goals as goal
 
 pub returns : goal.returns
 returns c =

@@ -1,6 +1,6 @@
 use Rattle.std.proofs.Common.{◌≡◌, ◌*◌, min, take, length}
 use Rattle.table_rows.specs.Layout.{unpacked_of}
-use Rattle.shared_basis.proofs.symbols.unpack_all.Given as goal
+use Rattle.table_rows.proofs.symbols.unpack_all.Given as goal
 
 -- the symbols so far are those of the words
 abbrev pub invariant-loop-at : goal.invariant-loop-at

@@ -2,14 +2,14 @@
 ghost use Rattle.std.specs.Prelude.{◌≡◌, ◌≤◌, length};
 ghost use Rattle.table_rows.specs.Layout.{packed_words_of, unpacked_of, words_for};
 
-use table_rows::{pack, unpack};
+use crate::layout::{pack, unpack, words_for_symbols};
 
 /// Packs symbols into as many words as they take.
 pub(crate) fn pack_all(symbols: &[u16], words: &mut [u64])
     requires { length words.old ≡ words_for (length symbols.now) }
     ensures { words.new ≡ packed_words_of symbols.now }
 {
-    table_rows::laws::packing();
+    crate::laws::packing();
     for at in 0..words.len() {
         let first = at * 4;
         let end = symbols.len().min(first + 4);
@@ -22,8 +22,8 @@ pub(crate) fn unpack_all(words: &[u64], out: &mut [u16])
     requires { words_for (length out.old) ≤ length words.now }
     ensures { out.new ≡ unpacked_of (length out.old) words.now }
 {
-    table_rows::laws::packing();
-    let count = (out.len() + 3) / 4;
+    crate::laws::packing();
+    let count = words_for_symbols(out.len());
     for at in 0..count {
         let first = at * 4;
         let end = out.len().min(first + 4);

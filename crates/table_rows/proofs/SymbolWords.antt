@@ -1,6 +1,6 @@
 -- Symbols packed into words and taken out of them, one word more at a time.
-use Rattle.std.proofs.Common.{◌≡◌, ℕ, zero, suc, ◌+◌, ◌-◌, ◌*◌, ◌<◌, ◌≤◌, min, List, [], ◌∷◌, ◌++◌, length, take, drop, get_or, sym, refl, ap, ◌∙◌, arith}
-use Rattle.std.proofs.lemmas.List.{length-append, length-drop, length-take, length-take-le, take_min, take_more}
+use Rattle.std.proofs.Common.{◌≡◌, ℕ, zero, suc, ◌+◌, ◌-◌, ◌*◌, ◌<◌, ◌≤◌, min, List, [], ◌∷◌, ◌++◌, length, take, drop, get_or, set, sym, refl, ap, ◌∙◌, arith}
+use Rattle.std.proofs.lemmas.List.{length-append, length-drop, length-take, length-take-le, take_min, take_more, take_more_set}
 use Rattle.std.proofs.lemmas.Slice.{take-put_mid}
 use borrow.Rule.Slice.PartMut.{put_mid}
 use Rattle.table_rows.specs.Layout.{symbols_in, unpacked_of}
@@ -68,3 +68,9 @@ unpacked_next one words out now at end lt within is so_far now_is long =
     ∙ (put ∙ ((λ i. take (same i) out ++ now' i)
     ∙ (ap (λ (l : List ℕ). l ++ take n (symbols_in (get_or words at 0))) so_far'
     ∙ (sym (next_symbols one words at n lt (omega arith)) ∙ ap (λ (i : ℕ). unpacked_of i words) (sym after)))))
+
+-- a word more that is that of another list
+pub same_more : (words before : List ℕ) (place word : ℕ) → place < length words → place < length before → take place words ≡ take place before
+    → word ≡ get_or before place 0 → take (place + 1) (set words place word) ≡ take (place + 1) before
+same_more words before place word lt lt' so_far here = take_more_set words place word lt
+    ∙ ((λ i. so_far i ++ here i ∷ []) ∙ sym (take_more before place 0 lt'))

@@ -1,8 +1,7 @@
 use Rattle.std.proofs.Common.{◌≡◌, ◌<◌, ℕ, List, length, sym, ap, ◌∙◌, arith}
 use Rattle.table_rows.specs.Layout.{packed_of, packed_words_of, words_for}
-use Rattle.shared_basis.proofs.FillLemmas.{same_more}
-use Rattle.shared_basis.proofs.PackLemmas.{four_from}
-use Rattle.shared_basis.proofs.symbols.pack_all.Goals as goal
+use Rattle.table_rows.proofs.SymbolWords.{four_from, same_more}
+use Rattle.table_rows.proofs.symbols.pack_all.Goals as goal
 
 pub loop-at-preserved : goal.loop-at-preserved
 loop-at-preserved c =

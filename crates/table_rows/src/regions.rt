@@ -2,26 +2,12 @@
 ghost use Rattle.std.specs.Prelude.{◌≡◌, ◌+◌, ◌*◌, ◌^◌, ◌<◌, ◌≤◌, ◌++◌, drop, length};
 ghost use Rattle.table_rows.specs.Layout.{packed_words_of, packet_in, region_for, region_length, row_in, unpacked_of, words_for};
 
+use crate::layout::words_for_symbols;
 use crate::symbols::{pack_all, unpack_all};
 use linear_spec::Packet;
 
-/// The number of words that so many symbols take.
-fn words_of(symbols: usize) -> usize
-    requires { symbols < 2 ^ 63 }
-    ensures { result ≡ words_for symbols }
-{
-    (symbols + 3) / 4
-}
-
 /// Lays out the words of a record and its row.
-pub(crate) fn lay_out(
-    caller: u32,
-    call: u32,
-    packet: &Packet,
-    pivot: u64,
-    row: &Packet,
-    words: &mut [u64],
-)
+pub fn lay_out(caller: u32, call: u32, packet: &Packet, pivot: u64, row: &Packet, words: &mut [u64])
     requires words { length words.old ≡ region_length (length packet.now.coeffs) (length packet.now.payload) }
     requires row { (length row.now.coeffs ≡ length packet.now.coeffs) × (length row.now.payload ≡ length packet.now.payload) }
     ensures { words.new ≡ region_for (record { caller = caller; call = call; packet = packet.now }) pivot row.now }
@@ -38,7 +24,7 @@ fn lay_out_pair(packet: &Packet, row: &Packet, words: &mut [u64])
     ensures { words.new ≡ (packed_words_of packet.now.coeffs ++ packed_words_of packet.now.payload)
         ++ (packed_words_of row.now.coeffs ++ packed_words_of row.now.payload) }
 {
-    let half = words_of(packet.coeffs.len()) + words_of(packet.payload.len());
+    let half = words_for_symbols(packet.coeffs.len()) + words_for_symbols(packet.payload.len());
     let (of_packet, of_row) = words.split_at_mut(half);
     lay_out_symbols(packet, of_packet);
     lay_out_symbols(row, of_row);
@@ -49,13 +35,13 @@ fn lay_out_symbols(packet: &Packet, words: &mut [u64])
     requires { length words.old ≡ words_for (length packet.now.coeffs) + words_for (length packet.now.payload) }
     ensures { words.new ≡ packed_words_of packet.now.coeffs ++ packed_words_of packet.now.payload }
 {
-    let (coeffs, payload) = words.split_at_mut(words_of(packet.coeffs.len()));
+    let (coeffs, payload) = words.split_at_mut(words_for_symbols(packet.coeffs.len()));
     pack_all(packet.coeffs.as_slice(), coeffs);
     pack_all(packet.payload.as_slice(), payload);
 }
 
 /// Takes the packet out of a region's words. The generation of `out` stays.
-pub(crate) fn take_packet(words: &[u64], out: &mut Packet)
+pub fn take_packet(words: &[u64], out: &mut Packet)
     requires { length words.now ≡ region_length (length out.old.coeffs) (length out.old.payload) }
     ensures { out.new ≡ packet_in out.old.generation (length out.old.coeffs) (length out.old.payload) words.now }
 {
@@ -63,23 +49,23 @@ pub(crate) fn take_packet(words: &[u64], out: &mut Packet)
 }
 
 /// Takes the row out of a region's words. The generation of `out` stays.
-pub(crate) fn take_row(words: &[u64], out: &mut Packet)
+pub fn take_row(words: &[u64], out: &mut Packet)
     requires { length words.now ≡ region_length (length out.old.coeffs) (length out.old.payload) }
     ensures { out.new ≡ row_in out.old.generation (length out.old.coeffs) (length out.old.payload) words.now }
 {
-    let half = words_of(out.coeffs.len()) + words_of(out.payload.len());
+    let half = words_for_symbols(out.coeffs.len()) + words_for_symbols(out.payload.len());
     take_symbols(&words[2 + half..], out);
 }
 
 /// Takes coefficients and payload out of words. The generation of `out` stays.
-pub(crate) fn take_symbols(words: &[u64], out: &mut Packet)
+pub fn take_symbols(words: &[u64], out: &mut Packet)
     requires { words_for (length out.old.coeffs) + words_for (length out.old.payload) ≤ length words.now }
     ensures coeffs { out.new.coeffs ≡ unpacked_of (length out.old.coeffs) words.now }
     ensures payload { out.new.payload ≡ unpacked_of (length out.old.payload) (drop (words_for (length out.old.coeffs)) words.now) }
     ensures generation { out.new.generation ≡ out.old.generation }
     ensures lengths { (length out.new.coeffs ≡ length out.old.coeffs) × (length out.new.payload ≡ length out.old.payload) }
 {
-    let of_coeffs = words_of(out.coeffs.len());
+    let of_coeffs = words_for_symbols(out.coeffs.len());
     unpack_all(words, out.coeffs.as_mut_slice());
     unpack_all(&words[of_coeffs..], out.payload.as_mut_slice());
 }
