@@ -10,4 +10,5 @@ pub mod Solving
 pub mod Span
 pub mod SymVecLends
 pub mod Symbols
+pub mod Told
 pub mod UnitVector
