@@ -89,8 +89,7 @@ module _ (field : IsField) (rows : List Packet) (packet reduced : Packet) (is_re
         is_inverse = one;
         coeffs = coeffs ∙ ap (scaled inverse) (sym front);
         payload = payload ∙ ap (scaled inverse) (sym rest);
-      } in
-      (
+      } in (
         (fresh_exactly field k s packets rows packet before.fit before.fits before.stand).1 (inverse_tells field k inverse (take k remainder) one),
         row_stands field k s packets rows packet row before.fit before.fits before.stand is_row,
       )

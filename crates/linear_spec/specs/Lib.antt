@@ -1,5 +1,6 @@
 pub mod Cases
 pub mod Combination
+pub mod Limits
 pub mod List
 pub mod ListLends
 pub mod Packet

@@ -5,6 +5,7 @@ mod cases;
 mod combination;
 mod equations;
 pub mod laws;
+pub mod limits;
 mod list;
 mod packet;
 mod record;

@@ -1,3 +1,4 @@
+//! Vectors of symbols, and their bytes.
 ghost use Rattle.std.specs.Prelude.{◌≡◌, ◌≤◌, ◌+◌, ◌*◌, ◌++◌, ◌/◌, ◌%◌, length, replicate, IfOk, IsOk, OnOk, OnErr};
 ghost use Rattle.std.specs.Borrow.{sem};
 ghost use Rattle.linear_spec.specs.Symbols.{AreSymbols, IsVector, be_bytes_of, symbols_of};
