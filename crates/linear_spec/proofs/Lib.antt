@@ -5,7 +5,6 @@ pub mod PacketLaws
 pub mod RankBounds
 pub mod RankSpans
 pub mod Ranks
-pub mod Reception
 pub mod RowLaws
 pub mod RowPlaces
 pub mod RowSpans
