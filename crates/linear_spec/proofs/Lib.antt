@@ -8,7 +8,6 @@ pub mod RankBounds
 pub mod RankSpans
 pub mod Ranks
 pub mod ReductionSteps
-pub mod Reception
 pub mod RowLaws
 pub mod RowPlaces
 pub mod RowSpans
