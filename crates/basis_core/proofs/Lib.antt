@@ -1,16 +1,12 @@
-pub mod FirstNonzero
 pub mod Law
 pub mod Lists
 pub mod Local
 pub mod Merged
 pub mod Merging
 pub mod Offers
-pub mod PlusScaled
 pub mod Points
-pub mod Reducing
 pub mod Replays
 pub mod Runs
-pub mod Scaled
 pub mod Told
 pub mod TraceReplays
 pub mod Whole

@@ -1,6 +1,5 @@
 pub mod Calls
 pub mod Entries
-pub mod Found
 pub mod Legal
 pub mod Machine
 pub mod Merge

@@ -2,11 +2,9 @@
 #![tactic(auto)]
 
 mod entry;
-mod examine;
 pub mod laws;
 mod machine;
 mod order;
-pub mod reduction;
 mod trace;
 
 pub use entry::Entry;

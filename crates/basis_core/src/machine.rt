@@ -6,10 +6,9 @@ ghost use Rattle.linear_spec.specs.SequentialBasis.{packets_of, IsCaseReply, rec
 ghost use Rattle.basis_core.specs.Calls.{IsDrawnAt};
 ghost use Rattle.basis_core.specs.Machine.{FitsEvent, IsAnswerTo, IsReplay, IsReplyAt, caller_of, calls_so_far, events_of, new_records};
 
-use crate::examine::{Found, examine};
 use crate::{Answer, Event, Replayed};
-use gf16::Memory;
-use linear_spec::{Drawn, List, Packet, Record, Reply};
+use gf16::{Memory, Plain};
+use linear_spec::{Case, Drawn, List, Packet, Record, Reply, examine};
 use std::alloc::Global;
 use std::marker::Model;
 
@@ -123,13 +122,12 @@ impl Core {
     {
         linear_spec::laws::rows();
         linear_spec::laws::decision();
-        gf16::laws::field();
         self.callers.reserve(1)?;
         self.records.reserve(1)?;
         self.rows.reserve(1)?;
         let front = self.records.len() as u16;
-        match examine(self.alloc, &self.rows, packet)? {
-            Found::New(row) => {
+        match examine::<Plain>(self.alloc, &self.rows, packet)? {
+            Case::Fresh(row) => {
                 let call = calls_made(&self.callers, caller);
                 let packet = packet.copy(self.alloc)?;
                 self.callers.put(caller);
@@ -141,11 +139,11 @@ impl Core {
                 self.rows.put(row);
                 Ok(Reply::Innovative { at: front })
             }
-            Found::Known => {
+            Case::Within => {
                 self.callers.put(caller);
                 Ok(Reply::NotInnovative { front })
             }
-            Found::Other => {
+            Case::Conflicting => {
                 self.callers.put(caller);
                 Ok(Reply::Conflicting { front })
             }

@@ -7,3 +7,6 @@ pub mod Idempotents
 pub mod Inverses
 pub mod Steps
 pub mod FieldRecord
+pub mod DotLemmas
+pub mod PlusScaled
+pub mod Scaled

@@ -46,6 +46,10 @@ pub record HasOneInverse (a : ℕ) : Type 0 where
   pub is_inverse : product_of a inverse ≡ 1
   pub only : (b : ℕ) → IsSymbol b → product_of a b ≡ 1 → b ≡ inverse
 
+-- every symbol but 0 has exactly one
+abbrev pub InverseLaw : Type 0
+InverseLaw = (a : ℕ) → IsSymbol a → a ≢ 0 → HasOneInverse a
+
 -- the laws of a field of characteristic two; a law that holds of every number asks for no symbol
 pub record IsField : Type 0 where
   pub sum_closed : (a b : ℕ) → IsSymbol a → IsSymbol b → IsSymbol (sum_of a b)

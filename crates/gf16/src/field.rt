@@ -1,3 +1,4 @@
+//! The field of 2^16 symbols: polynomials over two elements, modulo x^16 + x^12 + x^3 + x + 1.
 ghost use Rattle.std.specs.Prelude.{◌≡◌, ◌↔◌, IsNone, IfSome};
 ghost use Rattle.gf16.specs.Field.{sum_of, product_of, times_x};
 

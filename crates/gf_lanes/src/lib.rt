@@ -3,8 +3,7 @@
 #![tactic(auto)]
 
 mod kernels;
-mod plain;
 #[cfg(test)]
 mod tests;
 
-pub use kernels::{add_scaled, dot, scale};
+pub use kernels::{Lanes, add_scaled, dot, scale};

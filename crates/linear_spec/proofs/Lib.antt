@@ -1,11 +1,13 @@
 pub mod CheckLaws
 pub mod Decision
 pub mod Echelon
+pub mod Examined
+pub mod FirstNonzero
 pub mod PacketLaws
 pub mod RankBounds
 pub mod RankSpans
 pub mod Ranks
-pub mod Reception
+pub mod ReductionSteps
 pub mod RowLaws
 pub mod RowPlaces
 pub mod RowSpans

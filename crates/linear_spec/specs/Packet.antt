@@ -1,7 +1,7 @@
 -- What a packet is as a vector, and what it is measured by.
 -- k: the number of coefficients of a packet. s: the number of symbols of its payload. vector: the coefficients, then the
 -- payload, so k + s symbols. blocks: the source's lists of s symbols, which packets combine.
-use Rattle.std.specs.Prelude.{◌≡◌, ℕ, List, ◌++◌, map}
+use Rattle.std.specs.Prelude.{◌≡◌, ℕ, List, ◌++◌, map, replicate}
 use Rattle.linear_spec.specs.declared.packet.Packet.{Packet}
 use Rattle.linear_spec.specs.Symbols.{IsVector}
 use Rattle.linear_spec.specs.Combination.{combination_of}
@@ -10,6 +10,10 @@ use Rattle.linear_spec.specs.Combination.{combination_of}
 pub record Fits (k s : ℕ) (packet : Packet) : Type 0 where
   pub coeffs : IsVector k packet.coeffs
   pub payload : IsVector s packet.payload
+
+-- the packet of a generation whose symbols are all 0
+abbrev pub zeros_of : ℕ → ℕ → ℕ → Packet
+zeros_of k s generation = record { generation = generation; coeffs = replicate k 0; payload = replicate s 0 }
 
 -- a packet's vector: its coefficients, then its payload
 abbrev pub vector_of : Packet → List ℕ

@@ -3,7 +3,7 @@
 -- checks: the number of checks. k, s: the numbers of coefficients and of payload symbols of a packet, so of the blocks of
 -- a generation and of the symbols of a block. generations: their number. weights: s symbols for each check. sums: for each
 -- generation and check k symbols, the weighted sum of each block.
-use Rattle.std.specs.Prelude.{◌≡◌, ℕ, ◌+◌, ◌*◌, ◌<◌, List, take, drop, map}
+use Rattle.std.specs.Prelude.{◌≡◌, ℕ, ◌+◌, ◌*◌, ◌<◌, List, [], take, drop, map}
 use Rattle.gf16.specs.Sums.{dot_of}
 use Rattle.linear_spec.specs.declared.equations.Equations.{Equations}
 use Rattle.linear_spec.specs.declared.packet.Packet.{Packet}
@@ -14,6 +14,17 @@ use Rattle.linear_spec.specs.Packet.{Fits}
 pub record AreEquations (equations : Equations) : Type 0 where
   pub weights : IsVector (equations.checks * equations.s) equations.weights
   pub sums : IsVector (equations.generations * equations.checks * equations.k) equations.sums
+
+-- the equations of generations of k blocks of s symbols with no check
+abbrev pub without_checks : ℕ → ℕ → ℕ → Equations
+without_checks k s generations = record {
+  checks = 0;
+  k = k;
+  s = s;
+  generations = generations;
+  weights = [];
+  sums = [];
+}
 
 -- a packet that the equations speak of: it has their lengths, and its generation is one of theirs. For another packet the
 -- lists below may be cut short, and Meets and Passes then say nothing of a source

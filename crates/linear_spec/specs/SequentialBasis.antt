@@ -1,14 +1,12 @@
 -- The sequential basis: what one thread would keep and answer. Its state is a list of records; it knows no rows and no
 -- pivots.
 -- record: a packet that was kept, with its caller and the number of the caller's call. front: the packets of the records
--- that there are. at: their number. offer: a packet handed in, which is answered by a reply. draw: the question how many
--- records a combination may use. k, s: the numbers of coefficients and of payload symbols of each packet.
-use Rattle.std.specs.Prelude.{◌≡◌, ℕ, ◌<◌, List, [], ◌∷◌, ◌++◌, length, map}
+-- that there are. at: their number. offer: a packet handed in, which is answered by a reply. k, s: the numbers of
+-- coefficients and of payload symbols of each packet.
+use Rattle.std.specs.Prelude.{◌≡◌, ℕ, List, [], ◌∷◌, length, map}
 use Rattle.linear_spec.specs.declared.equations.Equations.{Equations}
 use Rattle.linear_spec.specs.declared.packet.Packet.{Packet}
 use Rattle.linear_spec.specs.declared.record.Record.{Record}
-use Rattle.linear_spec.specs.declared.record.Drawn.{Drawn}
-use Rattle.linear_spec.specs.declared.record.Drawn.TheVariants.{Sent, Nothing}
 use Rattle.linear_spec.specs.declared.reply.Reply.{Reply}
 use Rattle.linear_spec.specs.declared.reply.Reply.TheVariants.{FailedCheck, Innovative, NotInnovative, Conflicting}
 use Rattle.linear_spec.specs.Passing.{Passes, IsFirstFailing}
@@ -38,25 +36,3 @@ recorded offered (FailedCheck check at) = []
 recorded offered (Innovative at) = offered ∷ []
 recorded offered (NotInnovative at) = []
 recorded offered (Conflicting at) = []
-
--- packets that pass are offered in turn from a front on: each has its reply, and these are the packets kept at the end
-abbrev pub IsReceivedAfter : ℕ → ℕ → List Packet → List Packet → List Reply → List Packet → Type 0
-IsReceivedAfter k s front [] [] kept = kept ≡ front
-IsReceivedAfter k s front [] (reply ∷ replies) kept = ⊥
-IsReceivedAfter k s front (packet ∷ packets) [] kept = ⊥
-IsReceivedAfter k s front (packet ∷ packets) (reply ∷ replies) kept =
-    IsCaseReply k s front packet reply × IsReceivedAfter k s (front ++ recorded packet reply) packets replies kept
-
--- the same from the start on
-abbrev pub IsReceived : ℕ → ℕ → List Packet → List Reply → List Packet → Type 0
-IsReceived k s packets replies kept = IsReceivedAfter k s [] packets replies kept
-
--- an offer by a caller, with the number of this call; that the numbers count up is a matter of whole runs
-pub record IsOffer (equations : Equations) (before : List Record) (caller call : ℕ) (packet : Packet) (reply : Reply) (after : List Record) : Type 0 where
-  pub reply_is : IsReply equations (packets_of before) packet reply
-  pub after_is : after ≡ before ++ recorded (record { caller = caller; call = call; packet = packet }) reply
-
--- what a draw gives at these records: nothing where there are none
-abbrev pub IsDraw : List Record → Drawn → Type 0
-IsDraw records (Sent front) = (0 < length records) × (front ≡ length records)
-IsDraw records Nothing = length records ≡ 0

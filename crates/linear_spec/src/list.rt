@@ -1,6 +1,9 @@
-ghost use Rattle.std.specs.Prelude.{◌≡◌, ◌+◌, ◌-◌, ◌<◌, ◌≤◌, ◌↔◌, [], ◌∷◌, ◌++◌, length, IsOk, IsSome, IfSome, IfNone, OnOk, OnErr, slice_get, slice_index_or};
+//! Lists that grow at their end.
+ghost use Rattle.std.specs.Prelude.{◌≡◌, ◌+◌, ◌-◌, ◌<◌, ◌≤◌, ◌↔◌, [], ◌∷◌, ◌++◌, length, take, IsOk, IsSome, IfSome, IfNone, OnOk, OnErr, slice_get, slice_index_or};
 ghost use Rattle.std.specs.Option.{option_copied, option_to_list};
 ghost use Rattle.std.specs.Borrow.{sem};
+ghost use Rattle.std.specs.Iterator.Runs.{EveryRun, ItemsAre};
+ghost use Rattle.std.specs.Vec.Iter.{into_iter_items, into_iter_steps};
 
 use gf16::Memory;
 use std::alloc::Global;
@@ -90,6 +93,7 @@ impl<T> List<T> {
         ensures items { self.old.items ≡ self.new.items ++ option_to_list result }
         ensures variant { IsSome result ↔ (0 < length self.old.items) }
         ensures spare { self.old.spare ≤ self.new.spare }
+        ensures counted { self.new.spare ≡ self.old.spare + length (option_to_list result) }
     {
         let item = self.items.pop()?;
         self.spare += 1;
@@ -113,6 +117,24 @@ impl<T> List<T> {
 }
 
 impl<T: Drop> List<T> {
+    /// Keeps the first `len` items, or all where there are no more.
+    pub fn truncate(&mut self, len: usize)
+        ensures items { self.new.items ≡ take len self.old.items }
+        ensures spare { self.new.spare + length self.new.items ≡ self.old.spare + length self.old.items }
+    {
+        let before = self.items.len();
+        self.items.truncate(len);
+        self.spare += before - self.items.len();
+    }
+
+    /// The items by value, in order.
+    pub fn into_iter(self) -> std::vec::IntoIter<T, Global>
+        ensures items { into_iter_items result ≡ self.items }
+        ensures runs { EveryRun (into_iter_steps {X = T} {Z = Global}) (λ p. ItemsAre p (into_iter_items p.from)) }
+    {
+        self.items.into_iter()
+    }
+
     /// Appends an item. On refusal the list is as before, and the item is dropped.
     pub fn push(&mut self, item: T) -> Result<(), Memory>
         ensures ok { OnOk result (self.new.items ≡ self.old.items ++ item ∷ []) }

@@ -1,3 +1,4 @@
+//! Records, and what a draw answers.
 use crate::Packet;
 
 /// A packet that was recorded: by which caller, and as which of the caller's calls, counted from 0.

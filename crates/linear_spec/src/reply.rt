@@ -1,3 +1,4 @@
+//! What an offer is answered.
 /// What a receiver answers to an offered packet.
 ///
 /// `at` and `front` are numbers of records: `at` those before this one was recorded, `front` those that were there.

@@ -1,4 +1,5 @@
-ghost use Rattle.std.specs.Prelude.{◌≡◌, ◌++◌, ◌/◌, ◌%◌, length, replicate, IfOk, OnOk, OnErr};
+//! Vectors of symbols, and their bytes.
+ghost use Rattle.std.specs.Prelude.{◌≡◌, ◌≤◌, ◌+◌, ◌*◌, ◌++◌, ◌/◌, ◌%◌, length, replicate, IfOk, IsOk, OnOk, OnErr};
 ghost use Rattle.std.specs.Borrow.{sem};
 ghost use Rattle.linear_spec.specs.Symbols.{AreSymbols, IsVector, be_bytes_of, symbols_of};
 
@@ -56,7 +57,10 @@ impl SymVec {
     pub fn append_be_bytes(&self, out: &mut List<u8>) -> Result<(), Memory>
         ensures ok { OnOk result (out.new.items ≡ out.old.items ++ be_bytes_of self.now) }
         ensures err { OnErr result (out.new.items ≡ out.old.items) }
+        ensures spare { out.old.spare ≤ out.new.spare + 2 * length self.now }
+        ensures succeeds { 2 * length self.now ≤ out.old.spare → IsOk result }
     {
+        let _spare = out.spare();
         let room = self.symbols.len().checked_mul(2).ok_or(Memory)?;
         out.reserve(room)?;
         for symbol in &self.symbols {

@@ -1,3 +1,4 @@
+//! The words of a command line.
 ghost use Rattle.std.specs.Prelude.{◌≡◌, ◌<◌, ◌↔◌, [], ◌∷◌, ◌++◌, length, map, IfOk, IsSome, OnOk, OnErr, slice_get};
 ghost use Rattle.std.specs.Option.{option_copied};
 

@@ -22,9 +22,9 @@ use crate::columns::pivot_again;
 use crate::desk::Desk;
 use crate::drafts::write_draft;
 use crate::looking::{learn, row_again};
-use basis_core::reduction::{inverse_of_first, is_zero, place_of_first, reduce_by, scale};
+use gf_lanes::Lanes;
 use gf16::Gf;
-use linear_spec::{Packet, Reply};
+use linear_spec::{Packet, Reply, inverse_of_first, is_zero, place_of_first, reduce_by};
 use table_rows::{BasisTable, Exchanged, lay_out, take_row};
 
 /// Answers a passing packet as the call of this number: it is reduced by all rows that were seen, and then appended, or reduced
@@ -103,7 +103,7 @@ fn reduce_by_row(table: &BasisTable, desk: &mut Desk, n: usize)
         return;
     }
     row_again(table, desk, n);
-    reduce_by(&mut desk.left, &desk.row);
+    reduce_by::<Lanes<16>>(&mut desk.left, &desk.row);
 }
 
 /// Tries what is left until the packet is refused or recorded.
@@ -170,7 +170,7 @@ fn attempt(
         Exchanged::Lost { region } => {
             learn(table, desk, region);
             take_row(desk.words.as_slice(), &mut desk.row);
-            reduce_by(&mut desk.left, &desk.row);
+            reduce_by::<Lanes<16>>(&mut desk.left, &desk.row);
             None
         }
     }
@@ -248,7 +248,7 @@ fn make_draft(desk: &mut Desk, number: u32, call: u32, packet: &Packet, inverse:
     gf16::laws::field();
     desk.left.coeffs.is_vector();
     copy_symbols(&desk.left, &mut desk.row);
-    scale(&mut desk.row, inverse);
+    desk.row.scale::<Lanes<16>>(inverse);
     let pivot = match place_of_first(desk.row.coeffs.as_slice()) {
         Some(pivot) => pivot as u64,
         None => 0,

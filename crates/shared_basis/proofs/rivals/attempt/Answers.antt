@@ -81,7 +81,7 @@ returns-in-Lost c =
         words,
         lost.0.found,
         left_more c.reduction.ensures.last p e.seat.view.sight.parameters (regions_seen d.seat.view)
-            (regions_seen e.seat.view) words (vector_of c.args.packet.now) (vector_of e.left) (vector_of c.reduce_by.new.vector)
+            (regions_seen e.seat.view) words (vector_of c.args.packet.now) (vector_of e.left) (vector_of c.reduce_by.new.packet)
             c.take_row.new.out lost.0.found.parameters lost.0.found.regions lost.1 (ap vector_of left_kept ∙ c.requires.left) c.reduce_by.ensures.vector,
       );
       room = subst (λ (q : Parameters). length d.known.items < q.k) c.requires.seat.parameters c.draft_record.ensures.room;

@@ -4,26 +4,14 @@ use Rattle.linear_spec.proofs.RowPlaces.{stand_push}
 use Rattle.linear_spec.proofs.RowLaws.{follows_exactly, conflicting_exactly, none_fresh}
 use Rattle.linear_spec.proofs.laws.row_laws.decision.Goals as goal
 
-pub returns-clause-fresh : goal.returns-clause-fresh
-returns-clause-fresh c = fresh_exactly c.field.ensures
-
-pub returns-clause-follows : goal.returns-clause-follows
-returns-clause-follows c = follows_exactly c.field.ensures
-
-pub returns-clause-within : goal.returns-clause-within
-returns-clause-within c = within_exactly c.field.ensures
-
-pub returns-clause-conflicting : goal.returns-clause-conflicting
-returns-clause-conflicting c = conflicting_exactly c.field.ensures
-
-pub returns-clause-row : goal.returns-clause-row
-returns-clause-row c = fresh_gives_row c.field.ensures
-
-pub returns-clause-stands : goal.returns-clause-stands
-returns-clause-stands c = row_stands c.field.ensures
-
-pub returns-clause-joins : goal.returns-clause-joins
-returns-clause-joins c = stand_push
-
-pub returns-clause-full : goal.returns-clause-full
-returns-clause-full c = none_fresh c.field.ensures
+pub returns : goal.returns
+returns c = record {
+  fresh = fresh_exactly c.field.ensures;
+  follows = follows_exactly c.field.ensures;
+  within = within_exactly c.field.ensures;
+  conflicting = conflicting_exactly c.field.ensures;
+  row = fresh_gives_row c.field.ensures;
+  stands = row_stands c.field.ensures;
+  joins = stand_push;
+  full = none_fresh c.field.ensures;
+}

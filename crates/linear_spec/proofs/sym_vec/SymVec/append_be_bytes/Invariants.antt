@@ -6,5 +6,6 @@ use Rattle.linear_spec.proofs.sym_vec.SymVec.append_be_bytes.Given as goal
 abbrev pub invariant-loop-symbol : goal.invariant-loop-symbol
 invariant-loop-symbol l = record {
   appended : l.out.items ≡ l.fn.out.items ++ be_bytes_of (take l.symbol-index l.symbol-items);
+  kept : l.fn.out.spare ≤ l.out.spare + 2 * l.symbol-index;
   room : 2 * length l.symbol-items ≤ l.out.spare + 2 * l.symbol-index;
 }

@@ -1,3 +1,0 @@
-pub mod PlusScaled
-pub mod Scaled
-pub mod DotLemmas
