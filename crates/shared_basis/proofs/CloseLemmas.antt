@@ -19,6 +19,7 @@ use Rattle.table_rows.specs.Good.{IsGood, offers_of}
 use Rattle.table_rows.specs.Layout.{basis_length, caller_in, length_of, records_of_words, region_length, regions_of, rows_of_words}
 use Rattle.table_rows.specs.Seats.{SeatValue, TableValue}
 use Rattle.table_rows.specs.Views.{words_read}
+use Rattle.table_rows.specs.RegionLaws.{RecordLaws}
 use Rattle.shared_basis.specs.declared.params.Closed.{Closed}
 use Rattle.shared_basis.specs.declared.params.Params.{Params}
 use Rattle.shared_basis.specs.Bases.{AreParameters, BasisValue, IsBasis, PassValue}
@@ -28,7 +29,7 @@ use Rattle.shared_basis.specs.Gathering.{AreCallersOf, HasGathered, HasTaken, Ha
 use Rattle.shared_basis.specs.Passes.{calls_of}
 use Rattle.shared_basis.specs.Regions.{record_at}
 use Rattle.shared_basis.proofs.DecodeLemmas.{directory_most}
-use Rattle.shared_basis.proofs.PassLemmas.{Laws, seen_fit, seen_stand}
+use Rattle.shared_basis.proofs.PassLemmas.{seen_fit, seen_stand}
 use Rattle.shared_basis.proofs.TogetherLemmas.{HistoryLaws, all_together, callers_below, legal_over}
 
 -- the pass at a place of those that were taken in
@@ -104,7 +105,7 @@ laid_out p f words closed = record {
       (within.0, omega (arith, fits, count));
 }
 
-module _ (laws : Laws) (histories : HistoryLaws) (p : Parameters) (f : FounderView) (words : List ℕ) (closed : IsClosed p f words)
+module _ (laws : RecordLaws) (histories : HistoryLaws) (p : Parameters) (f : FounderView) (words : List ℕ) (closed : IsClosed p f words)
     (are : AreParameters p) (count : length f.joined ≡ p.passes) where
   abbrev regions : List (List ℕ)
   regions = regions_of p.k p.s words
@@ -150,7 +151,7 @@ module _ (laws : Laws) (histories : HistoryLaws) (p : Parameters) (f : FounderVi
         (subst (λ (l : List Record). IsLegalHistory p.equations.value (only number pass.calls) l) taken.seen taken.legal)))
 
 -- what a closing tells
-pub closes : Laws → HistoryLaws → (basis : BasisValue) (given : List PassValue) (founder : SeatValue FounderView) (callers : List CallerTrace) (words : List ℕ)
+pub closes : RecordLaws → HistoryLaws → (basis : BasisValue) (given : List PassValue) (founder : SeatValue FounderView) (callers : List CallerTrace) (words : List ℕ)
     (closed : Closed) → AreParameters basis.parameters → AreAllPasses basis given → HasGathered basis given founder [] callers
     → IsClosed basis.parameters founder.view words
     → closed.records.items ≡ records_of_words basis.parameters.generation basis.parameters.k basis.parameters.s words

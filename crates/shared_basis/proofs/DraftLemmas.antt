@@ -1,6 +1,6 @@
 -- A draft has a record that may come next, and what is left of a packet tells its case.
 -- p: the parameters. regions: those that were seen. left: what their rows leave of the packet.
-use Rattle.std.proofs.Common.{◌≡◌, ◌≢◌, ◌⊎◌, ◌↔◌, ⊎_elim, ℕ, ◌^◌, ◌<◌, ◌≤◌, List, length, map, take, drop, get_or, replicate, sym, ap, ◌∙◌, subst, arith}
+use Rattle.std.proofs.Common.{◌≡◌, ◌≢◌, ◌⊎◌, ⊎_elim, ℕ, ◌^◌, ◌<◌, ◌≤◌, List, length, map, take, drop, get_or, replicate, sym, ap, ◌∙◌, subst, arith}
 use Rattle.std.specs.List.{All}
 use Rattle.std.proofs.lemmas.List.{get_or-map, get_or-replicate, get_or_past, length-replicate, length-map}
 use Rattle.std.proofs.Math.Seq.{take-append_seam, drop-append_seam}
@@ -12,10 +12,12 @@ use Rattle.linear_spec.specs.Symbols.{AreSymbols}
 use Rattle.linear_spec.specs.Cases.{IsFresh, IsWithin, IsConflicting}
 use Rattle.linear_spec.specs.Packet.{Fits, vector_of}
 use Rattle.linear_spec.specs.Passing.{Passes}
+use Rattle.linear_spec.specs.RowLaws.{DecisionLaws}
 use Rattle.linear_spec.specs.Rows.{StandsFor, StandForAll, IsRowOf, first_nonzero, pivot_of, remainder_of}
 use Rattle.table_rows.specs.declared.view.Parameters.{Parameters}
-use Rattle.table_rows.specs.Good.{HasRecord, IsGood, IsNextRegion, packet_at, row_at}
-use Rattle.table_rows.specs.Layout.{call_in, caller_in, packet_in, pivot_in, region_for, row_in}
+use Rattle.table_rows.specs.Good.{IsGood, IsNextRegion, packet_at, row_at}
+use Rattle.table_rows.specs.Layout.{packet_in, region_for}
+use Rattle.table_rows.specs.RegionLaws.{RecordLaws, RegionLaws}
 use Rattle.shared_basis.specs.Desks.{HasLengths}
 use Rattle.shared_basis.specs.Passes.{IsFor}
 use Rattle.shared_basis.specs.Regions.{record_at}
@@ -54,28 +56,9 @@ scaled_is_not_zero field n inverse v symbols symbol product zeros =
 -- what the laws say that a draft needs
 pub record Laws : Type 0 where
   pub field : IsField
-  pub fresh : (k s : ℕ) (packets rows : List Packet) (packet : Packet) → All (Fits k s) packets → Fits k s packet → StandForAll k s packets rows
-      → IsFresh k packets packet ↔ (take k (remainder_of rows (vector_of packet)) ≢ replicate k 0)
-  pub within : (k s : ℕ) (packets rows : List Packet) (packet : Packet) → All (Fits k s) packets → Fits k s packet → StandForAll k s packets rows
-      → take k (remainder_of rows (vector_of packet)) ≡ replicate k 0
-      → IsWithin k s packets packet ↔ (drop k (remainder_of rows (vector_of packet)) ≡ replicate s 0)
-  pub conflicting : (k s : ℕ) (packets rows : List Packet) (packet : Packet) → All (Fits k s) packets → Fits k s packet → StandForAll k s packets rows
-      → IsConflicting k s packets packet
-      ↔ ((take k (remainder_of rows (vector_of packet)) ≡ replicate k 0) × (drop k (remainder_of rows (vector_of packet)) ≢ replicate s 0))
-  pub stands : (k s : ℕ) (packets rows : List Packet) (packet row : Packet) → All (Fits k s) packets → Fits k s packet → StandForAll k s packets rows
-      → IsRowOf k rows packet row → StandsFor k s packets rows packet row
-  pub full : (k s : ℕ) (packets rows : List Packet) (packet : Packet) → All (Fits k s) packets → Fits k s packet → StandForAll k s packets rows
-      → length packets ≡ k → ¬ IsFresh k packets packet
-  pub next : (p : Parameters) (before : List (List ℕ)) (region : List ℕ) → HasRecord p before region → IsNextRegion p before region
-  pub fit : (p : Parameters) (regions : List (List ℕ)) → IsGood p regions → All (Fits p.k p.s) (map (packet_at p) regions)
-  pub stand : (p : Parameters) (regions : List (List ℕ)) → IsGood p regions → StandForAll p.k p.s (map (packet_at p) regions) (map (row_at p) regions)
-  pub caller : (r : Record) (pivot : ℕ) (row : Packet) → r.call < 2 ^ 32 → caller_in (region_for r pivot row) ≡ r.caller
-  pub call : (r : Record) (pivot : ℕ) (row : Packet) → r.call < 2 ^ 32 → call_in (region_for r pivot row) ≡ r.call
-  pub pivot : (r : Record) (pivot : ℕ) (row : Packet) → pivot_in (region_for r pivot row) ≡ pivot
-  pub packet : (k s : ℕ) (r : Record) (pivot : ℕ) (row : Packet) → Fits k s r.packet → Fits k s row
-      → packet_in r.packet.generation k s (region_for r pivot row) ≡ r.packet
-  pub row : (k s : ℕ) (r : Record) (pivot : ℕ) (row : Packet) → Fits k s r.packet → Fits k s row
-      → row_in row.generation k s (region_for r pivot row) ≡ row
+  pub decision : DecisionLaws
+  pub records : RecordLaws
+  pub region : RegionLaws
 
 -- regions that are good, a packet that may be offered, and what their rows leave of it
 pub record IsReduced (p : Parameters) (regions : List (List ℕ)) (packet left : Packet) : Type 0 where
@@ -97,11 +80,11 @@ module _ (laws : Laws) (p : Parameters) (regions : List (List ℕ)) (packet left
 
   -- the packets that were seen fit
   fit : All (Fits p.k p.s) packets
-  fit = laws.fit p regions is.good
+  fit = laws.records.fit p regions is.good
 
   -- the rows that were seen stand for them
   stand : StandForAll p.k p.s packets rows
-  stand = laws.stand p regions is.good
+  stand = laws.records.stand p regions is.good
 
   -- the first k symbols of the remainder are the coefficients that are left
   front_is : take p.k remainder ≡ left.coeffs
@@ -113,7 +96,7 @@ module _ (laws : Laws) (p : Parameters) (regions : List (List ℕ)) (packet left
 
   -- where a coefficient that is left has an inverse, the packet is fresh
   pub is_fresh : (inverse : ℕ) → product_of (get_or left.coeffs (first_nonzero left.coeffs) 0) inverse ≡ 1 → IsFresh p.k packets packet
-  is_fresh inverse product = (laws.fresh p.k p.s packets rows packet fit is.offered.fits stand).1
+  is_fresh inverse product = (laws.decision.fresh p.k p.s packets rows packet fit is.offered.fits stand).1
       (λ e. inverse_tells laws.field p.k inverse left.coeffs product (sym front_is ∙ e))
 
   -- where a packet is fresh, there is room for a record
@@ -122,7 +105,7 @@ module _ (laws : Laws) (p : Parameters) (regions : List (List ℕ)) (packet left
       let count : length packets ≡ length regions = length-map regions (packet_at p) in
       let cases : (length regions < p.k) ⊎ (length regions ≡ p.k) = grind arith in
       ⊎_elim (λ below. below)
-      (λ full. absurd (laws.full p.k p.s packets rows packet fit is.offered.fits stand (count ∙ full) fresh)) cases
+      (λ full. absurd (laws.decision.full p.k p.s packets rows packet fit is.offered.fits stand (count ∙ full) fresh)) cases
 
   -- no coefficient is left
   no_coefficient : left.coeffs ≡ replicate (length left.coeffs) 0 → take p.k remainder ≡ replicate p.k 0
@@ -130,12 +113,12 @@ module _ (laws : Laws) (p : Parameters) (regions : List (List ℕ)) (packet left
 
   -- where nothing is left, the packet is within
   pub is_within : left.coeffs ≡ replicate (length left.coeffs) 0 → left.payload ≡ replicate (length left.payload) 0 → IsWithin p.k p.s packets packet
-  is_within zeros none = (laws.within p.k p.s packets rows packet fit is.offered.fits stand (no_coefficient zeros)).1
+  is_within zeros none = (laws.decision.within p.k p.s packets rows packet fit is.offered.fits stand (no_coefficient zeros)).1
       (back_is ∙ (none ∙ ap (λ m. replicate m 0) is.lengths.payload))
 
   -- where only payload is left, it is conflicting
   pub is_conflicting : left.coeffs ≡ replicate (length left.coeffs) 0 → left.payload ≢ replicate (length left.payload) 0 → IsConflicting p.k p.s packets packet
-  is_conflicting zeros some = (laws.conflicting p.k p.s packets rows packet fit is.offered.fits stand).1
+  is_conflicting zeros some = (laws.decision.conflicting p.k p.s packets rows packet fit is.offered.fits stand).1
       (no_coefficient zeros, λ e. some (sym back_is ∙ (e ∙ ap (λ m. replicate m 0) (sym is.lengths.payload))))
 
   module _ (row : Packet) (inverse caller call : ℕ) (symbol : IsSymbol inverse) (product : product_of (get_or left.coeffs (first_nonzero left.coeffs) 0) inverse ≡ 1)
@@ -161,32 +144,32 @@ module _ (laws : Laws) (p : Parameters) (regions : List (List ℕ)) (packet left
 
     -- so it stands for the packet
     row_stands : StandsFor p.k p.s packets rows packet the_row
-    row_stands = laws.stands p.k p.s packets rows packet the_row fit is.offered.fits stand is_row
+    row_stands = laws.decision.stands p.k p.s packets rows packet the_row fit is.offered.fits stand is_row
 
     -- the packet comes back from the words
     packet_is : packet_at p words ≡ packet
     packet_is = subst (λ g. packet_in g p.k p.s words ≡ packet) is.offered.generation
-        (laws.packet p.k p.s named (pivot_of row) the_row is.offered.fits row_stands.fits)
+        (laws.region.packet p.k p.s named (pivot_of row) the_row is.offered.fits row_stands.fits)
 
     -- and so does the row
     row_is : row_at p words ≡ the_row
-    row_is = laws.row p.k p.s named (pivot_of row) the_row is.offered.fits row_stands.fits
+    row_is = laws.region.row p.k p.s named (pivot_of row) the_row is.offered.fits row_stands.fits
 
     -- the record in the words of the draft
     pub record_is : record_at p words ≡ named
     record_is = λ i. record {
-      caller = laws.caller named (pivot_of row) row few i;
-      call = laws.call named (pivot_of row) row few i;
+      caller = laws.region.caller named (pivot_of row) row few i;
+      call = laws.region.call named (pivot_of row) row few i;
       packet = packet_is i;
     }
 
     -- it may come next
     pub draft_is_next : IsNextRegion p regions words
-    draft_is_next = laws.next p regions words (record {
+    draft_is_next = laws.records.next p regions words (record {
       fits = subst (Fits p.k p.s) (sym packet_is) is.offered.fits;
       passes = subst (Passes p.equations.value) (sym packet_is) is.passes;
       fresh = subst (IsFresh p.k packets) (sym packet_is) (is_fresh inverse product);
       stands = subst (λ t. StandsFor p.k p.s packets rows (packet_at p words) t) (sym row_is)
           (subst (λ t. StandsFor p.k p.s packets rows t the_row) (sym packet_is) row_stands);
-      pivot = laws.pivot named (pivot_of row) row ∙ ap pivot_of (sym row_is);
+      pivot = laws.region.pivot named (pivot_of row) row ∙ ap pivot_of (sym row_is);
     })

@@ -5,18 +5,12 @@ use Rattle.std.proofs.lemmas.List.Elements.{All-head, All-tail}
 use Rattle.table_rows.specs.declared.view.CallerView.{CallerView}
 use Rattle.table_rows.specs.declared.view.Front.{Front}
 use Rattle.table_rows.specs.declared.view.Sight.{Sight}
+use Rattle.table_rows.specs.RegionLaws.{MeetingLaws}
 use Rattle.table_rows.specs.Seats.{SeatValue}
 use Rattle.table_rows.specs.Steps.{IsSight, IsSoundView, after_join_note, after_write}
-use Rattle.table_rows.specs.Views.{IsPartOf, IsReadWhole, joined_sight, noted}
+use Rattle.table_rows.specs.Views.{IsPartOf, IsReadWhole, noted}
 use Rattle.shared_basis.specs.declared.desk.Desk.{Desk}
 use Rattle.shared_basis.specs.Desks.{IsBrought}
-
--- what the laws of meeting say
-pub record MeetingLaws : Type 0 where
-  pub first : (a b : Sight) → b.parameters ≡ a.parameters → IsSight a → IsSight b → IsReadWhole a.front
-      → IsPartOf a.front (joined_sight a b).front → length b.front.known ≤ length a.front.known → (joined_sight a b).front ≡ a.front
-  pub second : (a b : Sight) → b.parameters ≡ a.parameters → IsSight a → IsSight b → IsReadWhole b.front
-      → IsPartOf b.front (joined_sight a b).front → length a.front.known ≤ length b.front.known → (joined_sight a b).front ≡ b.front
 
 -- the first caller's view and the second's, when each has taken in the other's note
 pub record HaveMet (a b after_a after_b : CallerView) : Type 0 where

@@ -20,6 +20,7 @@ use Rattle.table_rows.specs.Layout.{caller_in}
 use Rattle.table_rows.specs.Seats.{SeatValue}
 use Rattle.table_rows.specs.Steps.{IsSoundView}
 use Rattle.table_rows.specs.Views.{IsPartOf, IsReadWhole, width_of, words_of_row, words_read}
+use Rattle.table_rows.specs.RegionLaws.{RecordLaws}
 use Rattle.shared_basis.specs.declared.desk.Desk.{Desk}
 use Rattle.shared_basis.specs.Bases.{AreParameters, HasFounder, IsPass, PassValue, kept_calls}
 use Rattle.shared_basis.specs.Desks.{HasLengths, IsBrought, IsDesk}
@@ -28,7 +29,6 @@ use Rattle.shared_basis.specs.Regions.{record_at, records_seen, regions_seen}
 use Rattle.shared_basis.proofs.GatherLemmas.{pass_of}
 use Rattle.shared_basis.proofs.HistoryLemmas.{OthersLaw, all_later}
 use Rattle.shared_basis.proofs.MeetLemmas.{either_most}
-use Rattle.shared_basis.proofs.PassLemmas.{Laws}
 use Rattle.shared_basis.proofs.TogetherLemmas.{HistoryLaws, all_together, legal_over}
 
 word_there : (o : Option ℕ) → IsSome o → (word : ℕ) × (o ≡ Some word)
@@ -63,7 +63,7 @@ module _ (width : ℕ) (small large : Front) (part : IsPartOf small large) (whol
   )
 
 -- a pass whose desk was brought together with another
-module _ (laws : Laws) (histories : HistoryLaws) (others_law : OthersLaw) (d other after : Desk) (brought : IsBrought d other after) (desk : IsDesk d)
+module _ (laws : RecordLaws) (histories : HistoryLaws) (others_law : OthersLaw) (d other after : Desk) (brought : IsBrought d other after) (desk : IsDesk d)
     (are : AreParameters d.seat.view.sight.parameters) where
   abbrev p : Parameters
   p = d.seat.view.sight.parameters

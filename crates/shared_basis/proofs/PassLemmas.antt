@@ -26,6 +26,7 @@ use Rattle.basis_core.specs.Run.{AreInnovative, AreInnovativeFrom}
 use Rattle.table_rows.specs.declared.view.Parameters.{Parameters}
 use Rattle.table_rows.specs.declared.view.CallerView.{CallerView}
 use Rattle.table_rows.specs.declared.view.FounderView.{FounderView}
+use Rattle.table_rows.specs.RegionLaws.{RecordLaws}
 use Rattle.table_rows.specs.Seats.{SeatValue}
 use Rattle.table_rows.specs.Good.{IsGood, offers_of, packet_at, row_at}
 use Rattle.table_rows.specs.Layout.{caller_in}
@@ -177,18 +178,7 @@ innovative_from equations front (packet ∷ packets) pass fresh = (
       (packet ∷ []) (take n packets))) (fresh (suc n) other (omega arith))),
 )
 
--- what the laws of records say of good regions
-pub record Laws : Type 0 where
-  pub fit : (p : Parameters) (regions : List (List ℕ)) → IsGood p regions → All (Fits p.k p.s) (map (packet_at p) regions)
-  pub pass : (p : Parameters) (regions : List (List ℕ)) → IsGood p regions
-      → All (Passes p.equations.value) (map (packet_at p) regions)
-  pub fresh : (p : Parameters) (regions : List (List ℕ)) → IsGood p regions → (n : ℕ) (packet : Packet)
-      → n < length (map (packet_at p) regions)
-      → IsFresh p.k (take n (map (packet_at p) regions)) (get_or (map (packet_at p) regions) n packet)
-  pub stand : (p : Parameters) (regions : List (List ℕ)) → IsGood p regions
-      → StandForAll p.k p.s (map (packet_at p) regions) (map (row_at p) regions)
-
-module _ (laws : Laws) (p : Parameters) (regions : List (List ℕ)) (good : IsGood p regions) where
+module _ (laws : RecordLaws) (p : Parameters) (regions : List (List ℕ)) (good : IsGood p regions) where
   pub seen_fit : All (Fits p.k p.s) (packets_of (map (record_at p) regions))
   seen_fit = subst (λ l. All (Fits p.k p.s) l) (sym (packets_seen_are p regions)) (laws.fit p regions good)
 
@@ -211,7 +201,7 @@ records_by v w more parameters regions = (λ i. map (record_at (parameters i)) (
     ∙ sym (append-nil (map (record_at v.sight.parameters) (regions_seen v ++ more)))
 
 -- what a desk has seen is innovative
-pub desk_innovative : Laws → (d : Desk) → IsDesk d
+pub desk_innovative : RecordLaws → (d : Desk) → IsDesk d
     → d.seat.view.sight.parameters.k ≡ d.seat.view.sight.parameters.equations.value.k
     → AreInnovative d.seat.view.sight.parameters.equations.value (packets_of (records_seen d.seat.view))
 desk_innovative laws d desk same = seen_innovative laws d.seat.view.sight.parameters (regions_seen d.seat.view)
@@ -228,7 +218,7 @@ looked_others d e more desk desk_after number own regions =
     ∙ desk.sound.own desk.whole)
 
 -- a pass whose desk looked on
-pub pass_looked : Laws → OtherRecordsLaw → OthersLaw
+pub pass_looked : RecordLaws → OtherRecordsLaw → OthersLaw
     → (d e : Desk) (founder : Option (SeatValue FounderView)) (number k : ℕ) (calls : ListValue Call) (offered : List Packet)
     (offers_room spare : ℕ) → IsPass d founder number calls offered offers_room spare → IsDesk e
     → e.seat.table ≡ d.seat.table → HasLookedOn k d.seat.view e.seat.view
@@ -309,7 +299,7 @@ module _ (d e : Desk) (number call tag reads : ℕ) (packet : Packet) (reply : R
       ∙ length-map answered_at (λ (r : Record). r.packet)))
 
   -- the history goes on with the regions found, and then with the offer
-  pub offer_history : Laws → OtherRecordsLaw → OthersLaw → StepLaw → SeenLaw → (calls : List KeptCall)
+  pub offer_history : RecordLaws → OtherRecordsLaw → OthersLaw → StepLaw → SeenLaw → (calls : List KeptCall)
       → AreParameters d.seat.view.sight.parameters
       → IsHistory d.seat.view.sight.parameters.equations.value number calls (records_seen d.seat.view)
       → number ≡ d.seat.view.number → call ≡ length calls

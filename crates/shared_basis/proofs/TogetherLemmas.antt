@@ -18,9 +18,10 @@ use Rattle.basis_core.specs.Run.{AreInnovative}
 use Rattle.table_rows.specs.declared.view.Parameters.{Parameters}
 use Rattle.table_rows.specs.Good.{IsGood, offers_of}
 use Rattle.table_rows.specs.Layout.{caller_in}
+use Rattle.table_rows.specs.RegionLaws.{RecordLaws}
 use Rattle.shared_basis.specs.Regions.{record_at}
 use Rattle.shared_basis.proofs.HistoryLemmas.{others_found}
-use Rattle.shared_basis.proofs.PassLemmas.{Laws, seen_innovative}
+use Rattle.shared_basis.proofs.PassLemmas.{seen_innovative}
 
 -- what the laws of histories say
 pub record HistoryLaws : Type 0 where
@@ -44,7 +45,7 @@ callers_below n regions none = λ k d h. dite (dec_le n (caller_in (get_or regio
     (λ not-le. omega arith)
 
 -- what a caller has seen is good with all that came later, and its calls are legal over all
-pub legal_over : Laws → HistoryLaws → (p : Parameters) (seen later : List (List ℕ)) (number : ℕ) (calls : List KeptCall)
+pub legal_over : RecordLaws → HistoryLaws → (p : Parameters) (seen later : List (List ℕ)) (number : ℕ) (calls : List KeptCall)
     → p.k ≡ p.equations.value.k → IsGood p (seen ++ later) → All (λ region. caller_in region < 2 ^ 32) later
     → offers_of number (seen ++ later) ≡ offers_of number seen
     → IsLegalHistory p.equations.value (only number calls) (map (record_at p) seen)

@@ -12,7 +12,6 @@ mod closing;
 mod columns;
 mod decoding;
 mod desk;
-mod drafts;
 mod drawing;
 mod gathering;
 mod looking;
@@ -21,7 +20,7 @@ mod offering;
 mod params;
 mod pass;
 mod reading;
-mod rivals;
+mod refusing;
 
 pub use basis::SharedBasis;
 pub use params::{CloseRefused, Closed, Created, Params};

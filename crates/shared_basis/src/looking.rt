@@ -1,16 +1,36 @@
 //! Looks: the directory read on, and each region that is found read whole. And regions and rows that are read again.
-ghost use Rattle.std.specs.Prelude.{◌≡◌, ◌<◌, ◌≤◌, ◌+◌, ◌^◌, [], ◌∷◌, ◌++◌, length, slice_index_or, vec_len};
+ghost use Rattle.std.specs.Prelude.{◌≡◌, ◌<◌, ◌≤◌, ◌+◌, ◌^◌, [], ◌∷◌, ◌++◌, length, slice_index_or, vec_len, ◌*◌, ℕ, List, Some, drop, map, slice_index};
 ghost use Rattle.std.specs.Bool.{OnTrue, OnFalse};
 ghost use Rattle.table_rows.specs.Layout.{row_in, words_for};
 ghost use Rattle.table_rows.specs.Seats.{IsCallerAt};
 ghost use Rattle.table_rows.specs.Steps.{IsSoundView, after_empty, after_reads};
-ghost use Rattle.table_rows.specs.Views.{width_of};
+ghost use Rattle.table_rows.specs.Views.{width_of, IsReadWhole, words_read};
 ghost use Rattle.shared_basis.specs.Desks.{IsDesk};
 ghost use Rattle.shared_basis.specs.Regions.{HasFound, HasLookedOn, regions_seen};
+ghost use Rattle.shared_basis.specs.Passes.{HasLooked, HasNotCalled, IsPassOf, SeesOn};
 
 use crate::desk::Desk;
-use crate::drafts::{read_region, read_rest};
-use table_rows::{BasisTable, take_symbols};
+use crate::{Pass, SharedBasis};
+use table_rows::{BasisTable, CallerSeat, take_symbols};
+
+impl SharedBasis {
+    /// Looks at the directory until a word is empty or all K records were seen, and answers how many were seen.
+    pub fn look(&self, pass: &mut Pass) -> u16
+        requires pass { IsPassOf self.now pass.old }
+        ensures seen { result ≡ length pass.new.seen }
+        ensures prefix { SeesOn pass.old pass.new }
+        ensures calls { HasNotCalled pass.old pass.new }
+        ensures looked { HasLooked pass.old pass.new }
+        ensures moves { pass.new.moves ≤ pass.old.moves + self.now.parameters.k + 1 }
+        ensures reads { pass.new.reads ≤ pass.old.reads + length pass.new.seen * width_of self.now.parameters }
+    {
+        basis_core::laws::histories();
+        basis_core::laws::steps();
+        table_rows::laws::records();
+        look_on(&self.table, &mut pass.desk, self.params.k);
+        pass.desk.known.len() as u16
+    }
+}
 
 /// Takes in a region that a step has just found, and reads it: its words are the desk's afterwards.
 pub(crate) fn learn(table: &BasisTable, desk: &mut Desk, region: u64)
@@ -121,4 +141,49 @@ pub(crate) fn row_again(table: &BasisTable, desk: &mut Desk, n: usize)
     let words = &mut desk.words.as_mut_slice()[start..];
     read_rest(table, &mut desk.seat, n as u16, region, start as u32, words);
     take_symbols(words, &mut desk.row);
+}
+
+/// Reads all words of a region that is known.
+fn read_region(table: &BasisTable, seat: &mut CallerSeat, n: u16, region: u64, words: &mut [u64])
+    requires seat { IsCallerAt table.now seat.old }
+    requires known { (n < length seat.old.view.sight.front.known) × (region ≡ slice_index seat.old.view.sight.front.known n) }
+    requires words { length words.old ≡ width_of table.now.parameters }
+    requires narrow { width_of table.now.parameters < 2 ^ 32 }
+    ensures seat { IsCallerAt table.now seat.new }
+    ensures view { seat.new.view ≡ after_reads seat.old.view n words.new }
+    ensures again { (before : List ℕ) → slice_index_or seat.old.view.sight.front.read n [] ≡ map Some before → words.new ≡ before }
+    ensures sound { IsSoundView seat.new.view }
+{
+    table_rows::laws::filling();
+    seat.is_caller();
+    for place in 0..words.len() {
+        words[place] = table.read(seat, n, region, place as u32);
+    }
+}
+
+/// Reads the words of a region from a place on, where all known regions were read before.
+fn read_rest(
+    table: &BasisTable,
+    seat: &mut CallerSeat,
+    n: u16,
+    region: u64,
+    from: u32,
+    words: &mut [u64],
+)
+    requires seat { IsCallerAt table.now seat.old }
+    requires known { (n < length seat.old.view.sight.front.known) × (region ≡ slice_index seat.old.view.sight.front.known n) }
+    requires words { from + length words.old ≡ width_of table.now.parameters }
+    requires narrow { width_of table.now.parameters < 2 ^ 32 }
+    requires whole { IsReadWhole seat.old.view.sight.front }
+    requires sound { IsSoundView seat.old.view }
+    ensures seat { IsCallerAt table.now seat.new }
+    ensures view { seat.new.view ≡ record seat.old.view { reads = seat.old.view.reads + length words.old } }
+    ensures words { words.new ≡ drop from (slice_index_or (words_read seat.old.view.sight.front) n []) }
+    ensures sound { IsSoundView seat.new.view }
+{
+    table_rows::laws::reading();
+    seat.is_caller();
+    for place in 0..words.len() {
+        words[place] = table.read(seat, n, region, from + place as u32);
+    }
 }

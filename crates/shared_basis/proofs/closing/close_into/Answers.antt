@@ -1,7 +1,7 @@
 use Rattle.std.proofs.Common.{◌≡◌, reverse, ap, ◌∙◌, subst, refl}
+use Rattle.table_rows.specs.RegionLaws.{RecordLaws}
 use Rattle.shared_basis.specs.Bases.{AreParameters, BasisValue}
 use Rattle.shared_basis.proofs.CloseLemmas.{all_joined, closed_words, closes, decoded_records, decoded_rows, laid_out_for, turned_round}
-use Rattle.shared_basis.proofs.PassLemmas.{Laws}
 use Rattle.shared_basis.proofs.TogetherLemmas.{HistoryLaws}
 use Rattle.shared_basis.proofs.closing.close_into.Goals as goal
 
@@ -17,7 +17,7 @@ pub returns : goal.returns
 returns c =
     let parameters : c.basis.inside.table.parameters ≡ c.args.basis.parameters = ap (λ (b : BasisValue). b.parameters) c.basis.view_is in
     let closed = closed_words _ _ _ _ _ parameters c.requires.room.words.0 c.close.ensures.closed in
-    let laws : Laws = record { fit = c.records.ensures.fit; pass = c.records.ensures.pass; fresh = c.records.ensures.fresh; stand = c.records.ensures.stand } in
+    let laws : RecordLaws = c.records.ensures in
     let histories : HistoryLaws = record { together = c.histories.ensures.together; other_records = c.histories.ensures.other_records } in
     let are : AreParameters c.args.basis.parameters = subst AreParameters parameters c.basis.invariant.parameters in
     closes laws histories _ _ _ _ _ _ are c.requires.passes c.gather-founder.ensures closed

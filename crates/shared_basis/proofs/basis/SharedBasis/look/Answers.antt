@@ -1,6 +1,7 @@
 use Rattle.std.proofs.Common.{◌≡◌, ◌∙◌, [], map, refl, sym, ap}
+use Rattle.table_rows.specs.RegionLaws.{RecordLaws}
 use Rattle.shared_basis.specs.Bases.{BasisValue, PassValue}
-use Rattle.shared_basis.proofs.PassLemmas.{Laws, pass_looked, records_by, seen_on, sees_before}
+use Rattle.shared_basis.proofs.PassLemmas.{pass_looked, records_by, seen_on, sees_before}
 use Rattle.shared_basis.proofs.basis.SharedBasis.look.Goals as goal
 
 -- the desk stays at its table
@@ -11,7 +12,7 @@ at_table c = c.look_on.ensures.seat.table ∙ ap (λ (b : BasisValue). b.table) 
 pub invariant_of-pass : goal.invariant_of-pass
 invariant_of-pass c =
     let p = c.pass.inside in
-    let laws : Laws = record { fit = c.records.ensures.fit; pass = c.records.ensures.pass; fresh = c.records.ensures.fresh; stand = c.records.ensures.stand } in
+    let laws : RecordLaws = c.records.ensures in
     pass_looked laws c.histories.ensures.other_records c.steps.ensures.others p.desk c.look_on.new.desk p.founder p.number _ p.calls
     (map (λ packet. packet.value) p.offered.items) p.offered.spare p.spare c.pass.invariant c.look_on.ensures.desk
     (at_table c) c.look_on.ensures.looked

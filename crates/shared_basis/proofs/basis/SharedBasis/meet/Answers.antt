@@ -1,16 +1,16 @@
 use Rattle.std.proofs.Common.{◌≡◌, ◌+◌, ◌++◌, ◌≤◌, ℕ, length, drop, map, sym, ap, ◌∙◌, subst}
 use Rattle.linear_spec.specs.List.{ListValue}
 use Rattle.table_rows.specs.declared.view.Front.{Front}
+use Rattle.table_rows.specs.RegionLaws.{RecordLaws}
 use Rattle.shared_basis.specs.Bases.{PassValue}
 use Rattle.shared_basis.specs.Regions.{record_at, records_seen}
 use Rattle.table_rows.specs.Views.{words_read}
 use Rattle.shared_basis.proofs.MetPassLemmas.{known_first, known_second, longer_seen, pass_now, sees_from, sees_now, two_together}
-use Rattle.shared_basis.proofs.PassLemmas.{Laws}
 use Rattle.shared_basis.proofs.TogetherLemmas.{HistoryLaws}
 use Rattle.shared_basis.proofs.basis.SharedBasis.meet.Goals as goal
 
-laws : goal.After-take_over-2 → Laws
-laws c = record { fit = c.records.ensures.fit; pass = c.records.ensures.pass; fresh = c.records.ensures.fresh; stand = c.records.ensures.stand }
+laws : goal.After-take_over-2 → RecordLaws
+laws c = c.records.ensures
 
 histories : goal.After-take_over-2 → HistoryLaws
 histories c = record { together = c.histories.ensures.together; other_records = c.histories.ensures.other_records }

@@ -4,9 +4,10 @@ use Rattle.basis_core.specs.Calls.{KeptOffer}
 use Rattle.basis_core.specs.Legal.{IsAnsweredOver}
 use Rattle.table_rows.specs.declared.view.Parameters.{Parameters}
 use Rattle.table_rows.specs.Views.{width_of}
+use Rattle.table_rows.specs.RegionLaws.{RecordLaws}
 use Rattle.shared_basis.specs.Bases.{BasisValue, PassValue, kept_calls}
 use Rattle.shared_basis.specs.Regions.{records_seen}
-use Rattle.shared_basis.proofs.PassLemmas.{Laws, answered_at, at_front, front_case, front_seen, has_called, kept_count, offer_answered, offer_count, offer_history, offered_more, pass_called, reads_at_most, seen_count, seen_on, sees_before}
+use Rattle.shared_basis.proofs.PassLemmas.{answered_at, at_front, front_case, front_seen, has_called, kept_count, offer_answered, offer_count, offer_history, offered_more, pass_called, reads_at_most, seen_count, seen_on, sees_before}
 use Rattle.shared_basis.proofs.basis.SharedBasis.offer.Goals as goal
 
 -- the desk stays at its table
@@ -39,7 +40,7 @@ pub invariant_of-pass : goal.invariant_of-pass
 invariant_of-pass c =
     let p = c.pass.inside in
     let offered = map (λ packet. packet.value) p.offered.items in
-    let laws : Laws = record { fit = c.records.ensures.fit; pass = c.records.ensures.pass; fresh = c.records.ensures.fresh; stand = c.records.ensures.stand } in
+    let laws : RecordLaws = c.records.ensures in
     let settled = c.settle-reply.ensures.view.2 in
     let some : 0 < p.spare = let room = c.requires.room in let is = ap (λ
     (q : PassValue). q.spare) c.pass.view_is in omega arith in

@@ -4,13 +4,14 @@ use Rattle.linear_spec.specs.Packet.{Fits}
 use Rattle.linear_spec.specs.Rows.{StandForAll}
 use Rattle.linear_spec.specs.SequentialBasis.{packets_of}
 use Rattle.basis_core.specs.Run.{AreInnovative}
+use Rattle.table_rows.specs.RegionLaws.{RecordLaws}
 use Rattle.shared_basis.specs.Bases.{PassValue}
 use Rattle.shared_basis.specs.Regions.{regions_seen}
-use Rattle.shared_basis.proofs.PassLemmas.{Laws, kept_count, seen_fit, seen_innovative, seen_stand}
+use Rattle.shared_basis.proofs.PassLemmas.{kept_count, seen_fit, seen_innovative, seen_stand}
 use Rattle.shared_basis.proofs.pass.Pass.has_seen.Goals as goal
 
-laws_of : (c : goal.After-self) → Laws
-laws_of c = record { fit = c.records.ensures.fit; pass = c.records.ensures.pass; fresh = c.records.ensures.fresh; stand = c.records.ensures.stand }
+laws_of : (c : goal.After-self) → RecordLaws
+laws_of c = c.records.ensures
 
 pub returns-clause-fit : goal.returns-clause-fit
 returns-clause-fit c =

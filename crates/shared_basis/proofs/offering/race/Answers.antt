@@ -1,6 +1,6 @@
 use Rattle.std.proofs.Common.{◌<◌, [], ◌∷◌, ◌++◌, length, arith}
 use Rattle.shared_basis.proofs.RivalLemmas.{found_more, found_none, found_others, known_more, settled_after}
-use Rattle.shared_basis.proofs.rivals.race.Goals as goal
+use Rattle.shared_basis.proofs.offering.race.Goals as goal
 
 pub loop-reply-init : goal.loop-reply-init
 loop-reply-init c = record {

@@ -2,7 +2,7 @@ use Rattle.std.proofs.Common.{ℕ, ◌-◌, List, length}
 use Rattle.table_rows.specs.Seats.{IsCallerAt}
 use Rattle.shared_basis.specs.Desks.{IsDesk, IsLeftOf}
 use Rattle.shared_basis.specs.Regions.{HasFound}
-use Rattle.shared_basis.proofs.rivals.race.Given as goal
+use Rattle.shared_basis.proofs.offering.race.Given as goal
 
 abbrev pub invariant-loop-reply : goal.invariant-loop-reply
 invariant-loop-reply l = record {

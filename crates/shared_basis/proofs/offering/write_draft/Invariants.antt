@@ -1,7 +1,7 @@
 use Rattle.std.proofs.Common.{◌≡◌, ◌<◌, take}
 use Rattle.table_rows.specs.Seats.{IsCallerAt}
 use Rattle.table_rows.specs.Steps.{IsSoundView, after_writes}
-use Rattle.shared_basis.proofs.drafts.write_draft.Given as goal
+use Rattle.shared_basis.proofs.offering.write_draft.Given as goal
 
 -- the words so far were written
 abbrev pub invariant-loop-place : goal.invariant-loop-place

@@ -4,7 +4,7 @@ use Rattle.linear_spec.specs.Packet.{vector_of}
 use Rattle.table_rows.specs.declared.view.Parameters.{Parameters}
 use Rattle.shared_basis.specs.Regions.{rows_seen}
 use Rattle.shared_basis.proofs.RivalLemmas.{nothing_left_there}
-use Rattle.shared_basis.proofs.rivals.reduce_by_row.Goals as goal
+use Rattle.shared_basis.proofs.offering.reduce_by_row.Goals as goal
 
 -- where nothing is left at the pivot, the row takes nothing from what is left
 pub returns-then-as_slice-pivot-eq0-clause-left : goal.returns-then-as_slice-pivot-eq0-clause-left

@@ -6,7 +6,7 @@ use Rattle.table_rows.specs.declared.view.CallerView.{CallerView}
 use Rattle.shared_basis.specs.Regions.{HasSettled, regions_seen}
 use Rattle.shared_basis.proofs.DraftLemmas.{IsReduced, Laws, is_conflicting, is_within}
 use Rattle.shared_basis.proofs.RivalLemmas.{known_count, seen_count, settled_refused}
-use Rattle.shared_basis.proofs.rivals.refuse.Goals as goal
+use Rattle.shared_basis.proofs.offering.refuse.Goals as goal
 
 -- the reply says whether payload is left, and the number of what was seen
 settled : Laws → (call front : ℕ) (packet left : Packet) (v : CallerView) (reply : Reply) → front ≡ length (regions_seen v)
@@ -25,22 +25,7 @@ settled laws call front packet left v reply count is none cases = ⊎_elim
 -- the payload that was looked at is what is left of it
 pub returns : goal.returns
 returns c = λ call.
-    let laws : Laws = record {
-      field = c.field.ensures;
-      fresh = c.decision.ensures.fresh;
-      within = c.decision.ensures.within;
-      conflicting = c.decision.ensures.conflicting;
-      stands = c.decision.ensures.stands;
-      full = c.decision.ensures.full;
-      next = c.records.ensures.next;
-      fit = c.records.ensures.fit;
-      stand = c.records.ensures.stand;
-      caller = c.region.ensures.caller;
-      call = c.region.ensures.call;
-      pivot = c.region.ensures.pivot;
-      packet = c.region.ensures.packet;
-      row = c.region.ensures.row;
-    } in
+    let laws : Laws = record { field = c.field.ensures; decision = c.decision.ensures; records = c.records.ensures; region = c.region.ensures } in
     let d = c.args.desk.now in
     settled laws call c.args.front c.args.packet.now d.left d.seat.view c.refused.result (c.requires.front ∙ known_count d c.requires.desk)
     (record {

@@ -5,7 +5,7 @@ use Rattle.table_rows.specs.declared.view.CallerView.{CallerView}
 use Rattle.table_rows.specs.Steps.{after_read, after_reads}
 use Rattle.table_rows.specs.Views.{width_of, word_read}
 use Rattle.shared_basis.proofs.FillLemmas.{next_known, same_more}
-use Rattle.shared_basis.proofs.drafts.read_region.Goals as goal
+use Rattle.shared_basis.proofs.looking.read_region.Goals as goal
 
 pub loop-place-preserved : goal.loop-place-preserved
 loop-place-preserved c =

@@ -2,7 +2,7 @@ use Rattle.std.proofs.Common.{◌≡◌, ◌+◌, [], drop, get_or, take}
 use Rattle.table_rows.specs.Seats.{IsCallerAt}
 use Rattle.table_rows.specs.Steps.{IsSoundView}
 use Rattle.table_rows.specs.Views.{words_read}
-use Rattle.shared_basis.proofs.drafts.read_rest.Given as goal
+use Rattle.shared_basis.proofs.looking.read_rest.Given as goal
 
 -- the words so far are those of the region, and cost one read each
 abbrev pub invariant-loop-place : goal.invariant-loop-place

@@ -8,7 +8,7 @@ use Rattle.table_rows.specs.Good.{row_at}
 use Rattle.table_rows.specs.Views.{width_of}
 use Rattle.shared_basis.specs.Regions.{regions_seen, rows_seen}
 use Rattle.shared_basis.proofs.RivalLemmas.{known_count, left_next, reread_on}
-use Rattle.shared_basis.proofs.rivals.reduce_by_seen.Goals as goal
+use Rattle.shared_basis.proofs.offering.reduce_by_seen.Goals as goal
 
 -- a row more is read
 one_read : (n width : ℕ) → n * width + width ≡ (n + 1) * width

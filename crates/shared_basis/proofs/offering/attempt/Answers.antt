@@ -12,7 +12,7 @@ use Rattle.table_rows.specs.Views.{width_of}
 use Rattle.shared_basis.specs.Desks.{HasLengths}
 use Rattle.shared_basis.specs.Regions.{regions_seen}
 use Rattle.shared_basis.proofs.RivalLemmas.{Filling, desk_more, is_won, known_count, left_more, lost_row, settled_won}
-use Rattle.shared_basis.proofs.rivals.attempt.Goals as goal
+use Rattle.shared_basis.proofs.offering.attempt.Goals as goal
 
 -- the row that was read has the lengths of what is left, and a pivot
 pub reduce_by-requires : goal.reduce_by-requires

@@ -2,7 +2,7 @@ use Rattle.std.proofs.Common.{◌≡◌, ◌<◌, ℕ, List, [], map, take, get_
 use Rattle.std.specs.Prelude.{Some}
 use Rattle.table_rows.specs.Seats.{IsCallerAt}
 use Rattle.table_rows.specs.Steps.{IsSoundView, after_reads}
-use Rattle.shared_basis.proofs.drafts.read_region.Given as goal
+use Rattle.shared_basis.proofs.looking.read_region.Given as goal
 
 -- the words so far were read, and are the same as ever
 abbrev pub invariant-loop-place : goal.invariant-loop-place

@@ -5,7 +5,7 @@ use Rattle.table_rows.specs.declared.view.CallerView.{CallerView}
 use Rattle.table_rows.specs.Steps.{after_read}
 use Rattle.table_rows.specs.Views.{width_of, with_word, word_read, words_read}
 use Rattle.shared_basis.proofs.FillLemmas.{region_long, same_more, word_there}
-use Rattle.shared_basis.proofs.drafts.read_rest.Goals as goal
+use Rattle.shared_basis.proofs.looking.read_rest.Goals as goal
 
 pub loop-place-preserved : goal.loop-place-preserved
 loop-place-preserved c =

@@ -5,7 +5,7 @@ use Rattle.table_rows.specs.Seats.{IsCallerAt}
 use Rattle.table_rows.specs.Views.{width_of}
 use Rattle.shared_basis.specs.Desks.{IsDesk}
 use Rattle.shared_basis.specs.Regions.{HasReread, rows_seen}
-use Rattle.shared_basis.proofs.rivals.reduce_by_seen.Given as goal
+use Rattle.shared_basis.proofs.offering.reduce_by_seen.Given as goal
 
 abbrev pub invariant-loop-n : goal.invariant-loop-n
 invariant-loop-n l = record {

@@ -4,8 +4,8 @@ use Rattle.gf16.specs.Sums.{scaled}
 use Rattle.linear_spec.specs.Rows.{first_nonzero}
 use Rattle.table_rows.specs.Layout.{region_for}
 use Rattle.shared_basis.proofs.DraftLemmas.{scaled_is_not_zero}
-use Rattle.shared_basis.proofs.rivals.make_draft.Goals as goal
-use Rattle.shared_basis.proofs.rivals.make_draft.Goals.{in-Some, in-None}
+use Rattle.shared_basis.proofs.offering.make_draft.Goals as goal
+use Rattle.shared_basis.proofs.offering.make_draft.Goals.{in-Some, in-None}
 
 -- words that are written over all of a list are that list
 written_over : (n : ℕ) (words before : List ℕ) → length words ≡ n → take n (words ++ drop (length words) before) ≡ words

@@ -5,27 +5,12 @@ use Rattle.shared_basis.specs.Regions.{record_at, regions_seen}
 use Rattle.table_rows.specs.Good.{IsNextRegion}
 use Rattle.shared_basis.proofs.DraftLemmas.{IsReduced, Laws, draft_is_next, has_room, is_fresh, record_is}
 use Rattle.shared_basis.proofs.RivalLemmas.{known_count}
-use Rattle.shared_basis.proofs.rivals.draft_record.Goals as goal
+use Rattle.shared_basis.proofs.offering.draft_record.Goals as goal
 
 -- what is left is reduced, and gives the words of the next record
 pub returns : goal.returns
 returns c =
-    let laws : Laws = record {
-      field = c.field.ensures;
-      fresh = c.decision.ensures.fresh;
-      within = c.decision.ensures.within;
-      conflicting = c.decision.ensures.conflicting;
-      stands = c.decision.ensures.stands;
-      full = c.decision.ensures.full;
-      next = c.records.ensures.next;
-      fit = c.records.ensures.fit;
-      stand = c.records.ensures.stand;
-      caller = c.region.ensures.caller;
-      call = c.region.ensures.call;
-      pivot = c.region.ensures.pivot;
-      packet = c.region.ensures.packet;
-      row = c.region.ensures.row;
-    } in
+    let laws : Laws = record { field = c.field.ensures; decision = c.decision.ensures; records = c.records.ensures; region = c.region.ensures } in
     let d = c.args.desk.now in
     let e = c.make_draft.new.desk in
     let p = d.seat.view.sight.parameters in
