@@ -1,6 +1,9 @@
+pub mod ChangedPlace
 pub mod CheckLaws
 pub mod Decision
 pub mod Echelon
+pub mod Filling
+pub mod FullRank
 pub mod PacketLaws
 pub mod RankBounds
 pub mod RankSpans
@@ -9,10 +12,13 @@ pub mod RowLaws
 pub mod RowPlaces
 pub mod RowSpans
 pub mod RowsFill
+pub mod RowsUnique
 pub mod Solutions
+pub mod Solvable
 pub mod SpanChanges
 pub mod SpanDecides
 pub mod SpanLaws
 pub mod SymbolLemmas
+pub mod UnitVectors
 pub mod VectorLaws
 pub mod VectorSums

@@ -16,3 +16,4 @@ pub mod SymVecLends
 pub mod SymbolLaws
 pub mod Symbols
 pub mod UnitVector
+pub mod VectorLaws
