@@ -1,5 +1,5 @@
 -- What an offer does to a sound machine, from what the rows tell of its packet.
-use Rattle.std.proofs.Common.{◌≡◌, ◌≢◌, ◌⊎◌, ◌↔◌, ⊎_elim, ℕ, ◌<◌, ◌≤◌, List, [], ◌∷◌, ◌++◌, length, take, drop, get_or, replicate, sym, ap, ◌∙◌, subst, arith}
+use Rattle.std.proofs.Common.{◌≡◌, ◌≢◌, ◌⊎◌, ⊎_elim, ℕ, ◌<◌, ◌≤◌, List, [], ◌∷◌, ◌++◌, length, take, drop, get_or, replicate, sym, ap, ◌∙◌, subst, arith}
 use Rattle.std.specs.List.{All}
 use Rattle.std.proofs.lemmas.List.{get_or-replicate, get_or_past, length-replicate, length-map, map_push}
 use Rattle.std.proofs.lemmas.List.Elements.{All-push}
@@ -8,6 +8,7 @@ use Rattle.linear_spec.specs.declared.packet.Packet.{Packet}
 use Rattle.linear_spec.specs.declared.record.Record.{Record}
 use Rattle.linear_spec.specs.Cases.{IsFresh, IsWithin, IsConflicting}
 use Rattle.linear_spec.specs.Packet.{Fits, vector_of}
+use Rattle.linear_spec.specs.RowLaws.{DecisionLaws, RowLaws}
 use Rattle.linear_spec.specs.Rows.{StandsFor, StandForAll, IsRowOf, first_nonzero, pivot_of, remainder_of}
 use Rattle.linear_spec.specs.SequentialBasis.{packets_of}
 use Rattle.basis_core.specs.declared.examine.Found.TheVariants.{New, Known, Other}
@@ -27,33 +28,10 @@ inverse_tells field n inverse v product zeros =
     let e : ◌≡◌ {A = ℕ} 0 1 = sym (ap (λ x. product_of x inverse) none ∙ field.zero_product inverse) ∙ product in
     absurd (omega arith)
 
-abbrev pub FreshLaw : Type 0
-FreshLaw = (k s : ℕ) (packets rows : List Packet) (packet : Packet) → All (Fits k s) packets → Fits k s packet → StandForAll k s packets rows
-    → IsFresh k packets packet ↔ (take k (remainder_of rows (vector_of packet)) ≢ replicate k 0)
-
-abbrev pub WithinLaw : Type 0
-WithinLaw = (k s : ℕ) (packets rows : List Packet) (packet : Packet) → All (Fits k s) packets → Fits k s packet → StandForAll k s packets rows
-    → take k (remainder_of rows (vector_of packet)) ≡ replicate k 0
-    → IsWithin k s packets packet ↔ (drop k (remainder_of rows (vector_of packet)) ≡ replicate s 0)
-
-abbrev pub ConflictingLaw : Type 0
-ConflictingLaw = (k s : ℕ) (packets rows : List Packet) (packet : Packet) → All (Fits k s) packets → Fits k s packet → StandForAll k s packets rows
-    → IsConflicting k s packets packet
-    ↔ ((take k (remainder_of rows (vector_of packet)) ≡ replicate k 0) × (drop k (remainder_of rows (vector_of packet)) ≢ replicate s 0))
-
-abbrev pub StandsLaw : Type 0
-StandsLaw = (k s : ℕ) (packets rows : List Packet) (packet row : Packet) → All (Fits k s) packets → Fits k s packet → StandForAll k s packets rows
-    → IsRowOf k rows packet row → StandsFor k s packets rows packet row
-
-abbrev pub JoinsLaw : Type 0
-JoinsLaw = (k s : ℕ) (packets rows : List Packet) (packet row : Packet) → StandForAll k s packets rows
-    → StandsFor k s packets rows packet row → StandForAll k s (packets ++ packet ∷ []) (rows ++ row ∷ [])
-
 -- the number of records is one of 16 bits
-pub few : (k s : ℕ) (records : List Record) (rows : List Packet) → IsSound k s records rows
-    → ((k s : ℕ) (packets rows : List Packet) → StandForAll k s packets rows → length rows ≤ k) → length records < 65536
-few k s records rows sound law =
-    let most = law k s (packets_of records) rows sound.stand in
+pub few : (k s : ℕ) (records : List Record) (rows : List Packet) → IsSound k s records rows → RowLaws → length records < 65536
+few k s records rows sound laws =
+    let most = laws.at_most k s (packets_of records) rows sound.stand in
     let count = sound.stand.count in
     let narrow = sound.narrow in
     let long = length-map records (λ r. r.packet) in
@@ -78,17 +56,17 @@ module _ (k s : ℕ) (records : List Record) (rows rows_now : List Packet) (pack
   row_is : (row : Packet) → Tells rows_now packet (New row) → IsRowOf k rows packet row
   row_is row tells = subst (λ r. IsRowOf k r packet row) same (subst (λ n. IsRowOf n rows_now packet row) fits.coeffs.count tells)
 
-  pub is_fresh : IsField → FreshLaw → (row : Packet) → Tells rows_now packet (New row) → IsFresh k (packets_of records) packet
-  is_fresh field law row tells =
+  pub is_fresh : IsField → DecisionLaws → (row : Packet) → Tells rows_now packet (New row) → IsFresh k (packets_of records) packet
+  is_fresh field laws row tells =
       let is_row = row_is row tells in
-      (law k s (packets_of records) rows packet sound.fit fits sound.stand).1
+      (laws.fresh k s (packets_of records) rows packet sound.fit fits sound.stand).1
       (inverse_tells field k is_row.inverse (take k (remainder_of rows (vector_of packet))) is_row.is_inverse)
 
-  pub sound_after : StandsLaw → JoinsLaw → (row : Packet) (r : Record) (records_next : List Record) (rows_next : List Packet) → Tells rows_now packet (New row)
+  pub sound_after : DecisionLaws → (row : Packet) (r : Record) (records_next : List Record) (rows_next : List Packet) → Tells rows_now packet (New row)
       → r.packet ≡ packet → records_next ≡ records ++ r ∷ [] → rows_next ≡ rows_now ++ row ∷ [] → IsSound k s records_next rows_next
-  sound_after stands joins row r records_next rows_next tells copied records_are rows_are =
-      let stand = joins k s (packets_of records) rows packet row sound.stand
-      (stands k s (packets_of records) rows packet row sound.fit fits sound.stand (row_is row tells)) in
+  sound_after laws row r records_next rows_next tells copied records_are rows_are =
+      let stand = laws.joins k s (packets_of records) rows packet row sound.stand
+      (laws.stands k s (packets_of records) rows packet row sound.fit fits sound.stand (row_is row tells)) in
       let packets : packets_of records_next ≡ packets_of records ++ packet ∷ [] =
       ap packets_of records_are ∙ map_push (λ r. r.packet) records r ∙ ap (λ p. packets_of records ++ p ∷ []) copied in
       let rows' : rows_next ≡ rows ++ row ∷ [] = rows_are ∙ ap (λ r. r ++ row ∷ []) same in
@@ -98,20 +76,20 @@ module _ (k s : ℕ) (records : List Record) (rows rows_now : List Packet) (pack
         stand = subst (λ ps. StandForAll k s ps rows_next) (sym packets) (subst (StandForAll k s (packets_of records ++ packet ∷ [])) (sym rows') stand);
       }
 
-  pub is_within : WithinLaw → Tells rows_now packet Known → IsWithin k s (packets_of records) packet
-  is_within law tells =
+  pub is_within : DecisionLaws → Tells rows_now packet Known → IsWithin k s (packets_of records) packet
+  is_within laws tells =
       let here : (take k (remainder_of rows (vector_of packet)) ≡ replicate k 0) × (drop k (remainder_of rows (vector_of packet)) ≡ replicate s 0) =
       subst (λ r. (take k (remainder_of r (vector_of packet)) ≡ replicate k 0) × (drop k (remainder_of r (vector_of packet)) ≡ replicate s 0)) same
       (subst (λ n. (take n (remainder_of rows_now (vector_of packet)) ≡ replicate n 0) × (drop n (remainder_of rows_now (vector_of packet)) ≡ replicate s 0)) fits.coeffs.count
       (subst (λ m. (take (length packet.coeffs) (remainder_of rows_now (vector_of packet)) ≡ replicate (length packet.coeffs) 0)
       × (drop (length packet.coeffs) (remainder_of rows_now (vector_of packet)) ≡ replicate m 0)) fits.payload.count tells)) in
-      (law k s (packets_of records) rows packet sound.fit fits sound.stand here.0).1 here.1
+      (laws.within k s (packets_of records) rows packet sound.fit fits sound.stand here.0).1 here.1
 
-  pub is_conflicting : ConflictingLaw → Tells rows_now packet Other → IsConflicting k s (packets_of records) packet
-  is_conflicting law tells =
+  pub is_conflicting : DecisionLaws → Tells rows_now packet Other → IsConflicting k s (packets_of records) packet
+  is_conflicting laws tells =
       let here : (take k (remainder_of rows (vector_of packet)) ≡ replicate k 0) × (drop k (remainder_of rows (vector_of packet)) ≢ replicate s 0) =
       subst (λ r. (take k (remainder_of r (vector_of packet)) ≡ replicate k 0) × (drop k (remainder_of r (vector_of packet)) ≢ replicate s 0)) same
       (subst (λ n. (take n (remainder_of rows_now (vector_of packet)) ≡ replicate n 0) × (drop n (remainder_of rows_now (vector_of packet)) ≢ replicate s 0)) fits.coeffs.count
       (subst (λ m. (take (length packet.coeffs) (remainder_of rows_now (vector_of packet)) ≡ replicate (length packet.coeffs) 0)
       × (drop (length packet.coeffs) (remainder_of rows_now (vector_of packet)) ≢ replicate m 0)) fits.payload.count tells)) in
-      (law k s (packets_of records) rows packet sound.fit fits sound.stand).1 here
+      (laws.conflicting k s (packets_of records) rows packet sound.fit fits sound.stand).1 here

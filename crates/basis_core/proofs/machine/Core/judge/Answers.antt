@@ -11,7 +11,7 @@ use Rattle.basis_core.proofs.machine.Core.judge.Goals as goal
 pub overflow_cast-front : goal.overflow_cast-front
 overflow_cast-front c =
     let inside = c.self.inside in
-    let bound = few inside.k inside.s inside.records.items inside.rows.items c.self.invariant c.rows.ensures.at_most in
+    let bound = few inside.k inside.s inside.records.items inside.rows.items c.self.invariant c.rows.ensures in
     let same = ap length c.reserve-2.ensures.items in
     omega (arith, c.len-front.ensures)
 
@@ -33,7 +33,7 @@ invariant_of-self-in-New c =
     let r : Record = record { caller = c.args.caller; call = c.calls_made-call.result; packet = c.in_ok-packet-in-New.packet } in
     sound_after inside.k inside.s inside.records.items inside.rows.items c.reserve-3.new.self.items c.args.packet.now c.self.invariant
     (subst (λ b. Fits b.k b.s c.args.packet.now) (sym c.self.view_is) c.requires.fits) c.reserve-3.ensures.items
-    c.decision.ensures.stands c.decision.ensures.joins c.in-New.row r c.put-in-New.new.self.items c.put-in-New-2.new.self.items
+    c.decision.ensures c.in-New.row r c.put-in-New.new.self.items c.put-in-New-2.new.self.items
     (subst (Tells c.reserve-3.new.self.items c.args.packet.now) c.in-New.is c.in_ok-row.ensures) c.in_ok-packet-in-New.ensures
     (c.put-in-New.ensures.items ∙ ap (λ rs. rs ++ r ∷ []) c.reserve-2.ensures.items) c.put-in-New-2.ensures.items
 
@@ -45,7 +45,7 @@ returns-in_ok-packet-in-New-clause-reply c =
     subst (λ b. IsFresh b.k (packets_of b.records) c.args.packet.now × (c.len-front.result ≡ length (packets_of b.records))) c.self.view_is (
       is_fresh inside.k inside.s inside.records.items inside.rows.items c.reserve-3.new.self.items c.args.packet.now c.self.invariant
           (subst (λ b. Fits b.k b.s c.args.packet.now) (sym c.self.view_is) c.requires.fits) c.reserve-3.ensures.items
-          c.field.ensures c.decision.ensures.fresh c.in-New.row (subst (Tells c.reserve-3.new.self.items c.args.packet.now) c.in-New.is c.in_ok-row.ensures),
+          c.field.ensures c.decision.ensures c.in-New.row (subst (Tells c.reserve-3.new.self.items c.args.packet.now) c.in-New.is c.in_ok-row.ensures),
       front,
     )
 
@@ -57,7 +57,7 @@ returns-in-Known-clause-reply c =
     subst (λ b. IsWithin b.k b.s (packets_of b.records) c.args.packet.now × (c.len-front.result ≡ length (packets_of b.records))) c.self.view_is (
       is_within inside.k inside.s inside.records.items inside.rows.items c.reserve-3.new.self.items c.args.packet.now c.self.invariant
           (subst (λ b. Fits b.k b.s c.args.packet.now) (sym c.self.view_is) c.requires.fits) c.reserve-3.ensures.items
-          c.decision.ensures.within (subst (Tells c.reserve-3.new.self.items c.args.packet.now) c.in-Known.is c.in_ok-row.ensures),
+          c.decision.ensures (subst (Tells c.reserve-3.new.self.items c.args.packet.now) c.in-Known.is c.in_ok-row.ensures),
       front,
     )
 
@@ -69,6 +69,6 @@ returns-in-Other-clause-reply c =
     subst (λ b. IsConflicting b.k b.s (packets_of b.records) c.args.packet.now × (c.len-front.result ≡ length (packets_of b.records))) c.self.view_is (
       is_conflicting inside.k inside.s inside.records.items inside.rows.items c.reserve-3.new.self.items c.args.packet.now c.self.invariant
           (subst (λ b. Fits b.k b.s c.args.packet.now) (sym c.self.view_is) c.requires.fits) c.reserve-3.ensures.items
-          c.decision.ensures.conflicting (subst (Tells c.reserve-3.new.self.items c.args.packet.now) c.in-Other.is c.in_ok-row.ensures),
+          c.decision.ensures (subst (Tells c.reserve-3.new.self.items c.args.packet.now) c.in-Other.is c.in_ok-row.ensures),
       front,
     )
