@@ -12,6 +12,7 @@ use Rattle.linear_spec.specs.Symbols.{AreSymbols}
 use Rattle.linear_spec.specs.Cases.{IsFresh, IsWithin, IsConflicting}
 use Rattle.linear_spec.specs.Packet.{Fits, vector_of}
 use Rattle.linear_spec.specs.Passing.{Passes}
+use Rattle.linear_spec.specs.RowLaws.{DecisionLaws}
 use Rattle.linear_spec.specs.Rows.{StandsFor, StandForAll, IsRowOf, first_nonzero, pivot_of, remainder_of}
 use Rattle.table_rows.specs.declared.view.Parameters.{Parameters}
 use Rattle.table_rows.specs.Good.{HasRecord, IsGood, IsNext, packet_at, row_at}
@@ -54,18 +55,7 @@ scaled_is_not_zero field n inverse v symbols symbol product zeros =
 -- what the laws say that a draft needs
 pub record Laws : Type 0 where
   pub field : IsField
-  pub fresh : (k s : ℕ) (packets rows : List Packet) (packet : Packet) → All (Fits k s) packets → Fits k s packet → StandForAll k s packets rows
-      → IsFresh k packets packet ↔ (take k (remainder_of rows (vector_of packet)) ≢ replicate k 0)
-  pub within : (k s : ℕ) (packets rows : List Packet) (packet : Packet) → All (Fits k s) packets → Fits k s packet → StandForAll k s packets rows
-      → take k (remainder_of rows (vector_of packet)) ≡ replicate k 0
-      → IsWithin k s packets packet ↔ (drop k (remainder_of rows (vector_of packet)) ≡ replicate s 0)
-  pub conflicting : (k s : ℕ) (packets rows : List Packet) (packet : Packet) → All (Fits k s) packets → Fits k s packet → StandForAll k s packets rows
-      → IsConflicting k s packets packet
-      ↔ ((take k (remainder_of rows (vector_of packet)) ≡ replicate k 0) × (drop k (remainder_of rows (vector_of packet)) ≢ replicate s 0))
-  pub stands : (k s : ℕ) (packets rows : List Packet) (packet row : Packet) → All (Fits k s) packets → Fits k s packet → StandForAll k s packets rows
-      → IsRowOf k rows packet row → StandsFor k s packets rows packet row
-  pub full : (k s : ℕ) (packets rows : List Packet) (packet : Packet) → All (Fits k s) packets → Fits k s packet → StandForAll k s packets rows
-      → length packets ≡ k → ¬ IsFresh k packets packet
+  pub decision : DecisionLaws
   pub next : (p : Parameters) (before : List (List ℕ)) (region : List ℕ) → HasRecord p before region → IsNext p before region
   pub fit : (p : Parameters) (regions : List (List ℕ)) → IsGood p regions → All (Fits p.k p.s) (map (packet_at p) regions)
   pub stand : (p : Parameters) (regions : List (List ℕ)) → IsGood p regions → StandForAll p.k p.s (map (packet_at p) regions) (map (row_at p) regions)
@@ -113,7 +103,7 @@ module _ (laws : Laws) (p : Parameters) (regions : List (List ℕ)) (packet left
 
   -- where a coefficient that is left has an inverse, the packet is fresh
   pub is_fresh : (inverse : ℕ) → product_of (get_or left.coeffs (first_nonzero left.coeffs) 0) inverse ≡ 1 → IsFresh p.k packets packet
-  is_fresh inverse product = (laws.fresh p.k p.s packets rows packet fit is.offered.fits stand).1
+  is_fresh inverse product = (laws.decision.fresh p.k p.s packets rows packet fit is.offered.fits stand).1
       (λ e. inverse_tells laws.field p.k inverse left.coeffs product (sym front_is ∙ e))
 
   -- where a packet is fresh, there is room for a record
@@ -122,7 +112,7 @@ module _ (laws : Laws) (p : Parameters) (regions : List (List ℕ)) (packet left
       let count : length packets ≡ length regions = length-map regions (packet_at p) in
       let cases : (length regions < p.k) ⊎ (length regions ≡ p.k) = grind arith in
       ⊎_elim (λ below. below)
-      (λ full. absurd (laws.full p.k p.s packets rows packet fit is.offered.fits stand (count ∙ full) fresh)) cases
+      (λ full. absurd (laws.decision.full p.k p.s packets rows packet fit is.offered.fits stand (count ∙ full) fresh)) cases
 
   -- no coefficient is left
   no_coefficient : left.coeffs ≡ replicate (length left.coeffs) 0 → take p.k remainder ≡ replicate p.k 0
@@ -130,12 +120,12 @@ module _ (laws : Laws) (p : Parameters) (regions : List (List ℕ)) (packet left
 
   -- where nothing is left, the packet is within
   pub is_within : left.coeffs ≡ replicate (length left.coeffs) 0 → left.payload ≡ replicate (length left.payload) 0 → IsWithin p.k p.s packets packet
-  is_within zeros none = (laws.within p.k p.s packets rows packet fit is.offered.fits stand (no_coefficient zeros)).1
+  is_within zeros none = (laws.decision.within p.k p.s packets rows packet fit is.offered.fits stand (no_coefficient zeros)).1
       (back_is ∙ (none ∙ ap (λ m. replicate m 0) is.lengths.payload))
 
   -- where only payload is left, it is conflicting
   pub is_conflicting : left.coeffs ≡ replicate (length left.coeffs) 0 → left.payload ≢ replicate (length left.payload) 0 → IsConflicting p.k p.s packets packet
-  is_conflicting zeros some = (laws.conflicting p.k p.s packets rows packet fit is.offered.fits stand).1
+  is_conflicting zeros some = (laws.decision.conflicting p.k p.s packets rows packet fit is.offered.fits stand).1
       (no_coefficient zeros, λ e. some (sym back_is ∙ (e ∙ ap (λ m. replicate m 0) (sym is.lengths.payload))))
 
   module _ (row : Packet) (inverse caller call : ℕ) (symbol : IsSymbol inverse) (product : product_of (get_or left.coeffs (first_nonzero left.coeffs) 0) inverse ≡ 1)
@@ -161,7 +151,7 @@ module _ (laws : Laws) (p : Parameters) (regions : List (List ℕ)) (packet left
 
     -- so it stands for the packet
     row_stands : StandsFor p.k p.s packets rows packet the_row
-    row_stands = laws.stands p.k p.s packets rows packet the_row fit is.offered.fits stand is_row
+    row_stands = laws.decision.stands p.k p.s packets rows packet the_row fit is.offered.fits stand is_row
 
     -- the packet comes back from the words
     packet_is : packet_at p words ≡ packet

@@ -12,11 +12,7 @@ pub returns : goal.returns
 returns c =
     let laws : Laws = record {
       field = c.field.ensures;
-      fresh = c.decision.ensures.fresh;
-      within = c.decision.ensures.within;
-      conflicting = c.decision.ensures.conflicting;
-      stands = c.decision.ensures.stands;
-      full = c.decision.ensures.full;
+      decision = c.decision.ensures;
       next = c.records.ensures.next;
       fit = c.records.ensures.fit;
       stand = c.records.ensures.stand;
