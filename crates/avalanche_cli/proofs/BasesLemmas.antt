@@ -7,6 +7,7 @@ use Rattle.linear_spec.specs.declared.packet.Packet.{Packet}
 use Rattle.linear_spec.specs.declared.record.Record.{Record}
 use Rattle.linear_spec.specs.Packet.{Fits}
 use Rattle.linear_spec.specs.SequentialBasis.{packets_of}
+use Rattle.linear_spec.specs.SpanLaws.{RankLaws, SpanLaws}
 use Rattle.basis_core.specs.declared.trace.BasisTrace.{BasisTrace}
 use Rattle.basis_core.specs.Run.{AreInnovative}
 use Rattle.generation.specs.Shape.{IsShape, generations_of, symbols_per_block}
@@ -20,7 +21,7 @@ use Rattle.avalanche_cli.specs.Reception.{HaveShape, trace_of, traces_of}
 use Rattle.avalanche_cli.specs.Sends.{sends_by}
 use Rattle.avalanche_cli.specs.Trace.{IsLegalBasis, IsLegalFetch, IsLegalTrace}
 use Rattle.avalanche_cli.specs.declared.trace.Trace.{Trace}
-use Rattle.avalanche_cli.proofs.RankLemmas.{ClosedLaw, MemberLaw, OneSpanLaw, RecordRankLaw, SpansLaw, legal_rank}
+use Rattle.avalanche_cli.proofs.RankLemmas.{RecordRankLaw, SpansLaw, legal_rank}
 use Rattle.avalanche_cli.proofs.TraceLemmas.{length-traces, no_basis, trace_at}
 use Rattle.avalanche_cli.proofs.TrueLemmas.{InnovativeLaw, RecordedLaw}
 
@@ -64,10 +65,10 @@ legal_fetch receivers contents bases trace are traces no_sends =
 
 -- ---- the ranks
 
-pub ranks_are : RecordedLaw → InnovativeLaw → SpansLaw → RecordRankLaw → MemberLaw → ClosedLaw → OneSpanLaw → (contents : Contents) (receivers : ℕ) (bases : List Closed) → 1 ≤ receivers → All (Fits contents.manifest.shape.k (symbols_per_block contents.manifest.shape)) contents.packets → AreReceived (equations_of contents) receivers contents.packets bases → (generation : ℕ) → generation < generations_of contents.manifest.shape → HasPacketRank contents generation (length (get_or bases generation no_basis).records.items)
-ranks_are recorded innovative spans rank member closed one_span contents receivers bases some fit are generation low =
+pub ranks_are : RecordedLaw → InnovativeLaw → SpansLaw → RecordRankLaw → SpanLaws → RankLaws → (contents : Contents) (receivers : ℕ) (bases : List Closed) → 1 ≤ receivers → All (Fits contents.manifest.shape.k (symbols_per_block contents.manifest.shape)) contents.packets → AreReceived (equations_of contents) receivers contents.packets bases → (generation : ℕ) → generation < generations_of contents.manifest.shape → HasPacketRank contents generation (length (get_or bases generation no_basis).records.items)
+ranks_are recorded innovative spans rank span_laws ranks contents receivers bases some fit are generation low =
     let is = are.each generation no_basis low in
-    legal_rank recorded innovative spans rank member closed one_span (equations_of contents) receivers None generation contents.packets (trace_of generation (get_or bases generation no_basis)) (omega arith) fit is.fit
+    legal_rank recorded innovative spans rank span_laws ranks (equations_of contents) receivers None generation contents.packets (trace_of generation (get_or bases generation no_basis)) (omega arith) fit is.fit
     (legal_basis (equations_of contents) receivers generation contents.packets (get_or bases generation no_basis) is)
 
 -- ---- what is solved

@@ -9,9 +9,9 @@ use Rattle.linear_spec.specs.declared.packet.Packet.{Packet}
 use Rattle.linear_spec.specs.declared.record.Record.{Record}
 use Rattle.linear_spec.specs.declared.reply.Reply.{Reply}
 use Rattle.linear_spec.specs.declared.reply.Reply.TheVariants.{FailedCheck, Innovative, NotInnovative, Conflicting}
-use Rattle.linear_spec.specs.Cases.{IsOneCase}
 use Rattle.linear_spec.specs.Packet.{Fits}
 use Rattle.linear_spec.specs.Passing.{IsFirstFailing, Passes}
+use Rattle.linear_spec.specs.RowLaws.{CaseLaws}
 use Rattle.linear_spec.specs.SequentialBasis.{IsReply, packets_of}
 use Rattle.basis_core.specs.declared.trace.BasisTrace.{BasisTrace}
 use Rattle.basis_core.specs.Calls.{KeptCall, KeptOffer, KeptDraw, point_of}
@@ -35,15 +35,11 @@ use Rattle.avalanche_cli.proofs.TrueLemmas.{InnovativeLaw, RecordedLaw, is_taken
 
 -- ---- one call
 
--- exactly one case holds of a packet at a front
-abbrev pub CaseLaw : Type 0
-CaseLaw = (k s : ℕ) (front : List Packet) (packet : Packet) → All (Fits k s) front → Fits k s packet → IsOneCase k s front packet
-
 not_passing : (equations : Equations) (packet : Packet) (check : ℕ) → IsFirstFailing equations packet check → ¬ Passes equations packet
 not_passing equations packet check failing passes = failing.fails (passes check failing.below)
 
-told_of : CaseLaw → (equations : Equations) (front : List Packet) (packet : Packet) (reply : Reply) → All (Fits equations.k equations.s) front → Fits equations.k equations.s packet → IsReply equations front packet reply → IsToldOf equations front packet reply
-told_of law equations front packet (FailedCheck check at) fit fits is =
+told_of : CaseLaws → (equations : Equations) (front : List Packet) (packet : Packet) (reply : Reply) → All (Fits equations.k equations.s) front → Fits equations.k equations.s packet → IsReply equations front packet reply → IsToldOf equations front packet reply
+told_of laws equations front packet (FailedCheck check at) fit fits is =
     let fails = not_passing equations packet check is.0 in
     record {
       fails = (λ _. fails, λ _. tt);
@@ -51,19 +47,19 @@ told_of law equations front packet (FailedCheck check at) fit fits is =
       lies = (λ no. absurd no, λ both. absurd (fails both.0));
       conflicts = (λ no. absurd no, λ both. absurd (fails both.0));
     }
-told_of law equations front packet (Innovative at) fit fits is = record {
+told_of laws equations front packet (Innovative at) fit fits is = record {
   fails = (λ no. absurd no, λ fails. absurd (fails is.0));
   records = (λ _. (is.0, is.1.0), λ _. tt);
-  lies = (λ no. absurd no, λ both. absurd ((law equations.k equations.s front packet fit fits).within_is_not_fresh both.1 is.1.0));
+  lies = (λ no. absurd no, λ both. absurd ((laws.one_case equations.k equations.s front packet fit fits).within_is_not_fresh both.1 is.1.0));
   conflicts = (λ no. absurd no, λ both. absurd (both.1.0 is.1.0));
 }
-told_of law equations front packet (NotInnovative at) fit fits is = record {
+told_of laws equations front packet (NotInnovative at) fit fits is = record {
   fails = (λ no. absurd no, λ fails. absurd (fails is.0));
-  records = (λ no. absurd no, λ both. absurd ((law equations.k equations.s front packet fit fits).within_is_not_fresh is.1.0 both.1));
+  records = (λ no. absurd no, λ both. absurd ((laws.one_case equations.k equations.s front packet fit fits).within_is_not_fresh is.1.0 both.1));
   lies = (λ _. (is.0, is.1.0), λ _. tt);
   conflicts = (λ no. absurd no, λ both. absurd (both.1.1 is.1.0));
 }
-told_of law equations front packet (Conflicting at) fit fits is = record {
+told_of laws equations front packet (Conflicting at) fit fits is = record {
   fails = (λ no. absurd no, λ fails. absurd (fails is.0));
   records = (λ no. absurd no, λ both. absurd (is.1.0.0 both.1));
   lies = (λ no. absurd no, λ both. absurd (is.1.0.1 both.1));
@@ -75,11 +71,11 @@ abbrev FitsCall : Equations → KeptCall → Type 0
 FitsCall equations (KeptOffer tag packet reply) = Fits equations.k equations.s packet
 FitsCall equations (KeptDraw tag drawn) = Unit {0}
 
-told : CaseLaw → (equations : Equations) (records : List Record) (call : KeptCall) → All (Fits equations.k equations.s) (packets_of records) → FitsCall equations call → IsAnsweredOver equations records call → IsTold equations records call
-told law equations records (KeptOffer tag packet reply) fit fits is =
-    told_of law equations (take (point_of (KeptOffer tag packet reply)) (packets_of records)) packet reply
+told : CaseLaws → (equations : Equations) (records : List Record) (call : KeptCall) → All (Fits equations.k equations.s) (packets_of records) → FitsCall equations call → IsAnsweredOver equations records call → IsTold equations records call
+told laws equations records (KeptOffer tag packet reply) fit fits is =
+    told_of laws equations (take (point_of (KeptOffer tag packet reply)) (packets_of records)) packet reply
     (All-take (Fits equations.k equations.s) (point_of (KeptOffer tag packet reply)) (packets_of records) fit) fits is.answered
-told law equations records (KeptDraw tag drawn) fit fits is = is.answered
+told laws equations records (KeptDraw tag drawn) fit fits is = is.answered
 
 -- ---- one basis
 
@@ -118,8 +114,8 @@ callers_fit equations receivers (Some its) generation n kept draws offers number
       subst (λ (m : ℕ). All (FitsCall equations) (kept m)) last (subst (All (FitsCall equations)) (sym draws) (draws_fit equations its generation n))
 ]
 
-pub one_history : CaseLaw → AnsweredLaw → OnceLaw → RecordedLaw → InnovativeLaw → (receivers : ℕ) (sending : Option Sending) (generation : ℕ) (contents : Contents) (basis : BasisTrace) → All (Fits contents.manifest.shape.k (symbols_per_block contents.manifest.shape)) contents.packets → IsLegalBasis (equations_of contents) receivers sending contents.packets generation basis → IsOneHistory (equations_of contents) receivers sending contents.packets generation basis
-one_history case answered once recorded innovative receivers sending generation contents basis fit is =
+pub one_history : CaseLaws → AnsweredLaw → OnceLaw → RecordedLaw → InnovativeLaw → (receivers : ℕ) (sending : Option Sending) (generation : ℕ) (contents : Contents) (basis : BasisTrace) → All (Fits contents.manifest.shape.k (symbols_per_block contents.manifest.shape)) contents.packets → IsLegalBasis (equations_of contents) receivers sending contents.packets generation basis → IsOneHistory (equations_of contents) receivers sending contents.packets generation basis
+one_history cases answered once recorded innovative receivers sending generation contents basis fit is =
     let equations = equations_of contents in
     let P : Packet → Type 0 = Fits equations.k equations.s in
     let records = basis.records.items in
@@ -136,6 +132,6 @@ one_history case answered once recorded innovative receivers sending generation 
       once = λ number low. once equations given records number (is.kept number) is.legal (given_here count number is.kept low);
       after_all_seen = λ number low. is.legal.in_order number (is.kept number) (given_here count number is.kept low);
       told = λ number low at other below.
-          told case equations records (get_or (is.kept number) at other) records_fit (calls_fit number low at other below)
+          told cases equations records (get_or (is.kept number) at other) records_fit (calls_fit number low at other below)
           (answered equations given records number (is.kept number) is.legal (given_here count number is.kept low) at other below);
     }

@@ -12,7 +12,8 @@ use Rattle.linear_spec.specs.declared.record.Record.{Record}
 use Rattle.linear_spec.specs.Packet.{Fits, coefficients_of}
 use Rattle.linear_spec.specs.Passing.{Passes}
 use Rattle.linear_spec.specs.SequentialBasis.{packets_of}
-use Rattle.linear_spec.specs.Span.{HasRank, HaveOneSpan, InSpan}
+use Rattle.linear_spec.specs.Span.{HasRank, InSpan}
+use Rattle.linear_spec.specs.SpanLaws.{RankLaws, SpanLaws}
 use Rattle.linear_spec.specs.Symbols.{IsVector}
 use Rattle.basis_core.specs.declared.trace.BasisTrace.{BasisTrace}
 use Rattle.basis_core.specs.Calls.{KeptCall, KeptOffer, KeptDraw}
@@ -39,28 +40,19 @@ SpansLaw = (equations : Equations) (given : Given) (records : List Record) (numb
 abbrev pub RecordRankLaw : Type 0
 RecordRankLaw = (equations : Equations) (records : List Record) → All (Fits equations.k equations.s) (packets_of records) → AreInnovative equations (packets_of records) → HasRank equations.k (coefficients_of (packets_of records)) (length records)
 
-abbrev pub MemberLaw : Type 0
-MemberLaw = (n : ℕ) (front back : List (List ℕ)) (vector : List ℕ) → All (IsVector n) (front ++ vector ∷ back) → InSpan n (front ++ vector ∷ back) vector
-
-abbrev pub ClosedLaw : Type 0
-ClosedLaw = (n : ℕ) (vectors others : List (List ℕ)) (vector : List ℕ) → All (IsVector n) vectors → All (IsVector n) others → All (InSpan n others) vectors → InSpan n vectors vector → InSpan n others vector
-
-abbrev pub OneSpanLaw : Type 0
-OneSpanLaw = (n r : ℕ) (vectors others : List (List ℕ)) → All (IsVector n) vectors → All (IsVector n) others → HaveOneSpan n vectors others → HasRank n vectors r → HasRank n others r
-
 -- ---- packets lie in their own span
 
 vectors_are : (k s : ℕ) (packets : List Packet) → All (Fits k s) packets → All (IsVector k) (coefficients_of packets)
 vectors_are k s packets fit = All-map (IsVector k) (λ (p : Packet). p.coeffs) packets (All-weaker (Fits k s) (λ p. IsVector k p.coeffs) (λ p fits. fits.coeffs) packets fit)
 
-members_after : MemberLaw → (k : ℕ) (front packets : List Packet) → All (IsVector k) (coefficients_of (front ++ packets)) → AllByRecursion (λ p. InSpan k (coefficients_of (front ++ packets)) p.coeffs) packets
-members_after member k front [] vectors = tt
-members_after member k front (p ∷ packets) vectors =
+members_after : SpanLaws → (k : ℕ) (front packets : List Packet) → All (IsVector k) (coefficients_of (front ++ packets)) → AllByRecursion (λ p. InSpan k (coefficients_of (front ++ packets)) p.coeffs) packets
+members_after laws k front [] vectors = tt
+members_after laws k front (p ∷ packets) vectors =
     let apart : coefficients_of (front ++ p ∷ packets) ≡ coefficients_of front ++ p.coeffs ∷ coefficients_of packets = map-append (λ (q : Packet). q.coeffs) front (p ∷ packets) in
     let joined : (front ++ p ∷ []) ++ packets ≡ front ++ p ∷ packets = append_assoc front (p ∷ []) packets in (
-      subst (λ (l : List (List ℕ)). InSpan k l p.coeffs) (sym apart) (member k (coefficients_of front) (coefficients_of packets) p.coeffs (subst (All (IsVector k)) apart vectors)),
+      subst (λ (l : List (List ℕ)). InSpan k l p.coeffs) (sym apart) (laws.member k (coefficients_of front) (coefficients_of packets) p.coeffs (subst (All (IsVector k)) apart vectors)),
       subst (λ (l : List Packet). AllByRecursion (λ q. InSpan k (coefficients_of l) q.coeffs) packets) joined
-          (members_after member k (front ++ p ∷ []) packets (subst (λ (l : List Packet). All (IsVector k) (coefficients_of l)) (sym joined) vectors)),
+          (members_after laws k (front ++ p ∷ []) packets (subst (λ (l : List Packet). All (IsVector k) (coefficients_of l)) (sym joined) vectors)),
     )
 
 -- ---- what holds of all packets that the receivers get holds of all packets of a generation
@@ -101,7 +93,7 @@ spanned_offers equations records (first ∷ dealt) (KeptOffer tag packet reply �
 
 -- ---- the rank
 
-module _ (recorded : RecordedLaw) (innovative : InnovativeLaw) (spans : SpansLaw) (rank : RecordRankLaw) (member : MemberLaw) (closed : ClosedLaw) (one_span : OneSpanLaw) where
+module _ (recorded : RecordedLaw) (innovative : InnovativeLaw) (spans : SpansLaw) (rank : RecordRankLaw) (span_laws : SpanLaws) (ranks : RankLaws) where
   pub legal_rank : (equations : Equations) (receivers : ℕ) (sending : Option Sending) (generation : ℕ) (packets : List Packet) (basis : BasisTrace) → 0 < receivers → All (Fits equations.k equations.s) packets → All (Fits equations.k equations.s) (packets_of basis.records.items) → IsLegalBasis equations receivers sending packets generation basis → HasRank equations.k (coefficients_of (passing_in equations generation packets)) (length basis.records.items)
   legal_rank equations receivers sending generation packets basis some fit records_fit is =
       let k = equations.k in
@@ -115,7 +107,7 @@ module _ (recorded : RecordedLaw) (innovative : InnovativeLaw) (spans : SpansLaw
       let own_vectors : All (IsVector k) own = vectors_are k s passing passing_fit in
       let its_vectors : All (IsVector k) its = vectors_are k s (packets_of records) records_fit in
       let inside : All (λ (p : Packet). InSpan k own p.coeffs) (packets_of records) =
-      of_records recorded innovative (λ p. InSpan k own p.coeffs) equations receivers sending packets generation basis is (All-from_recursion (λ (p : Packet). InSpan k own p.coeffs) passing (members_after member k [] passing own_vectors)) in
+      of_records recorded innovative (λ p. InSpan k own p.coeffs) equations receivers sending packets generation basis is (All-from_recursion (λ (p : Packet). InSpan k own p.coeffs) passing (members_after span_laws k [] passing own_vectors)) in
       let spanned : AllByRecursion (λ (p : Packet). Passes equations p × SpannedBy equations records p) passing =
       all_dealt (SpannedBy equations records) equations receivers generation some packets 0 (λ receiver low.
       spanned_offers equations records (dealt_to receivers receiver generation packets) (is.kept receiver) (is.offers receiver low)
@@ -125,6 +117,6 @@ module _ (recorded : RecordedLaw) (innovative : InnovativeLaw) (spans : SpansLaw
       both.1 both.0 (passing_fit place other low) in
       let own_in_its : All (InSpan k its) own = All-map (InSpan k its) (λ (p : Packet). p.coeffs) passing covered in
       let its_in_own : All (InSpan k own) its = All-map (InSpan k own) (λ (p : Packet). p.coeffs) (packets_of records) inside in
-      one_span k (length records) its own its_vectors own_vectors
-      (λ vector. (closed k its own vector its_vectors own_vectors its_in_own, closed k own its vector own_vectors its_vectors own_in_its))
+      ranks.one_span k (length records) its own its_vectors own_vectors
+      (λ vector. (span_laws.closed k its own vector its_vectors own_vectors its_in_own, span_laws.closed k own its vector own_vectors its_vectors own_in_its))
       (rank equations records records_fit (innovative equations given records is.legal))

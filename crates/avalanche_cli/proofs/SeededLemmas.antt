@@ -10,6 +10,7 @@ use Rattle.linear_spec.specs.Packet.{Fits, IsTrueTo, coefficients_of, vector_of,
 use Rattle.linear_spec.specs.Passing.{AreEquations, Passes}
 use Rattle.linear_spec.specs.Solving.{Solves}
 use Rattle.linear_spec.specs.Span.{HasRank, InSpan}
+use Rattle.linear_spec.specs.SpanLaws.{RankLaws}
 use Rattle.linear_spec.specs.Symbols.{IsVector}
 use Rattle.linear_spec.specs.UnitVector.{unit_of}
 use Rattle.generation.specs.declared.ticket.Ticket.{Ticket}
@@ -58,12 +59,6 @@ DrawsSpan = (k s generation link q : ℕ) (key : List ℕ) (front : List Packet)
 
 abbrev pub DrawsAreTrue : Type 0
 DrawsAreTrue = (k s generation link q : ℕ) (key : List ℕ) (front : List Packet) (blocks : List (List ℕ)) → All (Fits k s) front → All (IsTrueTo s blocks) front → length blocks ≡ k → All (IsVector s) blocks → IsTrueTo s blocks (drawn_packet k s generation key link q front)
-
-abbrev pub HaveRanks : Type 0
-HaveRanks = (n : ℕ) (vectors : List (List ℕ)) → All (IsVector n) vectors → (r : ℕ) × HasRank n vectors r
-
-abbrev pub RankAtMostSymbols : Type 0
-RankAtMostSymbols = (n : ℕ) (vectors : List (List ℕ)) (r : ℕ) → All (IsVector n) vectors → HasRank n vectors r → r ≤ n
 
 pub is_file : (words : SeedWords) (file : List ℕ) → IsSeedable words file → IsFile (shape_of_seed words file) file
 is_file words file is = record { len = refl; bytes = is.are_bytes }
@@ -173,8 +168,8 @@ module _ (count : HaveKBlocks) (vectors : BlocksAreVectors) (words : SeedWords) 
               true_to = subst (λ (packets : List Packet). All (IsTrueTo s blocks) packets) (sym (seeded_passing g below)) (packets_are_true g below);
             }
 
-        pub seeded_rank : HaveRanks → RankAtMostSymbols → ((k : ℕ) → HasRank k (map (unit_of k) (range_with_len 0 k)) k) → (g : ℕ) → words.bare ≡ false → g < generations_of (shape_of_seed words file) → HasRank words.k (coefficients_of (passing_of (contents_of_seed words file) g)) words.k
-        seeded_rank have most units g whole below =
+        pub seeded_rank : RankLaws → ((k : ℕ) → HasRank k (map (unit_of k) (range_with_len 0 k)) k) → (g : ℕ) → words.bare ≡ false → g < generations_of (shape_of_seed words file) → HasRank words.k (coefficients_of (passing_of (contents_of_seed words file) g)) words.k
+        seeded_rank ranks units g whole below =
             let d = shape_of_seed words file in
             let own = generation_packets_of d file g in
             let draws = seed_draws_of words file g in
@@ -189,4 +184,4 @@ module _ (count : HaveKBlocks) (vectors : BlocksAreVectors) (words : SeedWords) 
             let same : coefficients_of (passing_of (contents_of_seed words file) g) ≡ coefficients_of own ++ coefficients_of draws =
             ap coefficients_of (seeded_passing g below ∙ parts) ∙ split in
             subst Full (sym same)
-            (rank_of_more have most words.k (coefficients_of own) (coefficients_of draws) vectors_all (subst Full (sym (coefficients_of_generation d file g)) (units words.k)))
+            (rank_of_more ranks words.k (coefficients_of own) (coefficients_of draws) vectors_all (subst Full (sym (coefficients_of_generation d file g)) (units words.k)))

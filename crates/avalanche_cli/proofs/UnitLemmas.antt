@@ -8,6 +8,7 @@ use Rattle.gf16.specs.Field.{IsField, IsSymbol, product_of, sum_of}
 use Rattle.gf16.specs.Sums.{dot_of, plus_scaled}
 use Rattle.linear_spec.specs.Combination.{column_of, combination_of}
 use Rattle.linear_spec.specs.Span.{HasRank, HasRankAfter, InSpan}
+use Rattle.linear_spec.specs.SpanLaws.{CombinationLaws, RankLaws}
 use Rattle.linear_spec.specs.Symbols.{AreSymbols, IsVector}
 use Rattle.linear_spec.specs.UnitVector.{unit_of}
 
@@ -39,23 +40,23 @@ module _ (field : IsField) where
       ap₂ (λ a w. a ∷ w) (field.zero_sum (product_of 1 y) ∙ field.one_product y (All-head IsSymbol y v symbols))
       (added_to_zeros n v (omega arith) (All-tail IsSymbol y v symbols))
 
-  module _ (none : (n : ℕ) (coefficients : List ℕ) → combination_of n coefficients [] ≡ replicate n 0) (first : (n c : ℕ) (coefficients vector : List ℕ) (vectors : List (List ℕ)) → combination_of n (c ∷ coefficients) (vector ∷ vectors) ≡ plus_scaled (combination_of n coefficients vectors) c vector) where
+  module _ (laws : CombinationLaws) where
     zeros_combine : (n k : ℕ) (vectors : List (List ℕ)) → length vectors ≡ k → combination_of n (replicate k 0) vectors ≡ replicate n 0
-    zeros_combine n k [] long = none n (replicate k 0)
+    zeros_combine n k [] long = laws.none n (replicate k 0)
     zeros_combine n zero (v ∷ vs) long = absurd (omega arith)
     zeros_combine n (suc k) (v ∷ vs) long =
-        first n 0 (replicate k 0) v vs ∙ nothing_added (combination_of n (replicate k 0) vs) v ∙ zeros_combine n k vs (omega arith)
+        laws.first n 0 (replicate k 0) v vs ∙ nothing_added (combination_of n (replicate k 0) vs) v ∙ zeros_combine n k vs (omega arith)
 
     pub unit_combines : (n k column : ℕ) (vectors : List (List ℕ)) → length vectors ≡ k → All (IsVector n) vectors → column < k → combination_of n (unit_of k column) vectors ≡ get_or vectors column []
     unit_combines n zero column vectors long all below = absurd (omega arith)
     unit_combines n (suc k) column [] long all below = absurd (omega arith)
     unit_combines n (suc k) zero (v ∷ vs) long all below =
         let vector = All-head (IsVector n) v vs all in
-        first n 1 (replicate k 0) v vs
+        laws.first n 1 (replicate k 0) v vs
         ∙ ap (λ zeros. plus_scaled zeros 1 v) (zeros_combine n k vs (omega arith))
         ∙ added_to_zeros n v vector.count vector.symbols
     unit_combines n (suc k) (suc column) (v ∷ vs) long all below =
-        first n 0 (unit_of k column) v vs ∙ nothing_added (combination_of n (unit_of k column) vs) v
+        laws.first n 0 (unit_of k column) v vs ∙ nothing_added (combination_of n (unit_of k column) vs) v
         ∙ unit_combines n k column vs (omega arith) (All-tail (IsVector n) v vs all) (omega arith)
 
   -- ---- the rank
@@ -88,12 +89,12 @@ module _ (field : IsField) where
       let apart : zero ≡ 1 = sym is_zero ∙ sym read ∙ same ∙ is_one in
       absurd (omega arith)
 
-  module _ (more : (n r : ℕ) (vectors : List (List ℕ)) (vector : List ℕ) → HasRank n vectors r → (InSpan n vectors vector → HasRank n (vectors ++ vector ∷ []) r) × ((¬ InSpan n vectors vector) → HasRank n (vectors ++ vector ∷ []) (suc r))) where
+  module _ (ranks : RankLaws) where
     rank_of_units : (k i : ℕ) → i ≤ k → HasRank k (map (unit_of k) (range_with_len 0 i)) i
     rank_of_units k zero within = refl
     rank_of_units k (suc i) within =
         let units = map (unit_of k) (range_with_len 0 i) in
-        let next = (more k i units (unit_of k i) (rank_of_units k i (omega arith))).1 (not_spanned k i (omega arith)) in
+        let next = (ranks.more k i units (unit_of k i) (rank_of_units k i (omega arith))).1 (not_spanned k i (omega arith)) in
         let same : units ++ unit_of k i ∷ [] ≡ map (unit_of k) (range_with_len 0 (suc i)) =
         sym (map-range_with_len_more (unit_of k) 0 i i (omega arith)) ∙ ap (λ n. map (unit_of k) (range_with_len 0 n)) (add-one i) in
         subst (λ (vectors : List (List ℕ)). HasRank k vectors (suc i)) same next
@@ -115,10 +116,10 @@ rank_of_front n before (v ∷ front) back r q (inr new) (inr also) =
     omega (arith, new.2, also.2)
 
 -- vectors of n symbols behind some of rank n leave the rank as it is
-pub rank_of_more : ((n : ℕ) (vectors : List (List ℕ)) → All (IsVector n) vectors → (r : ℕ) × HasRank n vectors r) → ((n : ℕ) (vectors : List (List ℕ)) (r : ℕ) → All (IsVector n) vectors → HasRank n vectors r → r ≤ n) → (n : ℕ) (front back : List (List ℕ)) → All (IsVector n) (front ++ back) → HasRank n front n → HasRank n (front ++ back) n
-rank_of_more have most n front back vectors full =
-    let whole = have n (front ++ back) vectors in
-    let few : whole.0 ≤ n = most n (front ++ back) whole.0 vectors whole.1 in
+pub rank_of_more : RankLaws → (n : ℕ) (front back : List (List ℕ)) → All (IsVector n) (front ++ back) → HasRank n front n → HasRank n (front ++ back) n
+rank_of_more ranks n front back vectors full =
+    let whole = ranks.some n (front ++ back) vectors in
+    let few : whole.0 ≤ n = ranks.at_most_symbols n (front ++ back) whole.0 vectors whole.1 in
     let many : n ≤ whole.0 = rank_of_front n [] front back whole.0 n whole.1 full in
     let same : whole.0 ≡ n = omega arith in
     subst (λ (r : ℕ). HasRank n (front ++ back) r) same whole.1

@@ -8,24 +8,21 @@ use Rattle.linear_spec.specs.declared.cases.Case.TheVariants.{Fresh}
 use Rattle.linear_spec.specs.declared.packet.Packet.{Packet}
 use Rattle.linear_spec.specs.declared.record.Record.{Record}
 use Rattle.linear_spec.specs.Packet.{Fits}
-use Rattle.linear_spec.specs.Rows.{StandsFor, StandForAll}
+use Rattle.linear_spec.specs.RowLaws.{DecisionLaws, RowLaws}
+use Rattle.linear_spec.specs.Rows.{StandForAll}
 use Rattle.linear_spec.specs.SequentialBasis.{packets_of}
 use Rattle.linear_spec.specs.Told.{AreRowsFor, IsCaseAt, StandBefore, Tells}
 use Rattle.basis_core.specs.Machine.{IsSound}
 
 -- the number of records is one of 16 bits
 pub few : (k s : ℕ) (records : List Record) (rows : List Packet) → IsSound k s records rows
-    → ((k s : ℕ) (packets rows : List Packet) → StandForAll k s packets rows → length rows ≤ k) → length records < 65536
-few k s records rows sound law =
-    let most = law k s (packets_of records) rows sound.stand in
+    → RowLaws → length records < 65536
+few k s records rows sound laws =
+    let most = laws.at_most k s (packets_of records) rows sound.stand in
     let count = sound.stand.count in
     let narrow = sound.narrow in
     let long = length-map records (λ r. r.packet) in
     omega arith
-
-abbrev pub JoinsLaw : Type 0
-JoinsLaw = (k s : ℕ) (packets rows : List Packet) (packet row : Packet) → StandForAll k s packets rows
-    → StandsFor k s packets rows packet row → StandForAll k s (packets ++ packet ∷ []) (rows ++ row ∷ [])
 
 module _ (k s : ℕ) (records : List Record) (rows rows_now : List Packet) (packet : Packet) (sound : IsSound k s records rows) (fits : Fits k s packet) (same : rows_now ≡ rows) where
   before : StandBefore k s (packets_of records) rows_now packet
@@ -41,10 +38,10 @@ module _ (k s : ℕ) (records : List Record) (rows rows_now : List Packet) (pack
   pub case_here : (case : Case) → Tells rows_now packet case → IsCaseAt k s (packets_of records) rows_now packet case
   case_here case tells = tells k s (packets_of records) before
 
-  pub sound_after : JoinsLaw → (row : Packet) (r : Record) (records_next : List Record) (rows_next : List Packet) → Tells rows_now packet (Fresh row)
+  pub sound_after : DecisionLaws → (row : Packet) (r : Record) (records_next : List Record) (rows_next : List Packet) → Tells rows_now packet (Fresh row)
       → r.packet ≡ packet → records_next ≡ records ++ r ∷ [] → rows_next ≡ rows_now ++ row ∷ [] → IsSound k s records_next rows_next
-  sound_after joins row r records_next rows_next tells copied records_are rows_are =
-      let stand = joins k s (packets_of records) rows_now packet row before.stand (case_here (Fresh row) tells).1 in
+  sound_after laws row r records_next rows_next tells copied records_are rows_are =
+      let stand = laws.joins k s (packets_of records) rows_now packet row before.stand (case_here (Fresh row) tells).1 in
       let packets : packets_of records_next ≡ packets_of records ++ packet ∷ [] =
       ap packets_of records_are ∙ map_push (λ r. r.packet) records r ∙ ap (λ p. packets_of records ++ p ∷ []) copied in
       record {

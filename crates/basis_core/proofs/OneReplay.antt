@@ -8,9 +8,8 @@ use Rattle.linear_spec.specs.declared.record.Record.{Record}
 use Rattle.linear_spec.specs.declared.record.Drawn.TheVariants.{Sent, Nothing}
 use Rattle.linear_spec.specs.declared.reply.Reply.{Reply}
 use Rattle.linear_spec.specs.declared.reply.Reply.TheVariants.{FailedCheck, Innovative, NotInnovative, Conflicting}
-use Rattle.linear_spec.specs.Cases.{IsWithin}
-use Rattle.linear_spec.specs.Packet.{Fits, coefficients_of}
-use Rattle.linear_spec.specs.Span.{InSpan}
+use Rattle.linear_spec.specs.Packet.{Fits}
+use Rattle.linear_spec.specs.RowLaws.{CaseLaws}
 use Rattle.linear_spec.specs.SequentialBasis.{IsCaseReply, packets_of, recorded}
 use Rattle.basis_core.specs.declared.trace.Answer.{Answer}
 use Rattle.basis_core.specs.declared.trace.Answer.TheVariants.{Offered, Drew}
@@ -18,19 +17,15 @@ use Rattle.basis_core.specs.declared.trace.Event.{Event}
 use Rattle.basis_core.specs.declared.trace.Event.TheVariants.{Offer, Draw}
 use Rattle.basis_core.specs.Machine.{FitsEvent, IsAnswerTo, IsReplayAfter, caller_of, calls_so_far, new_records}
 
--- the law that the coefficients of a packet within follow from the front's
-abbrev pub WithinFollows : Type 0
-WithinFollows = (k s : ℕ) (front : List Packet) (packet : Packet) → All (Fits k s) front → Fits k s packet → IsWithin k s front packet → InSpan k (coefficients_of front) packet.coeffs
-
-module _ (follows : WithinFollows) (k s : ℕ) where
+module _ (laws : CaseLaws) (k s : ℕ) where
   one_reply : (front : List Packet) (packet : Packet) (reply other : Reply) → All (Fits k s) front → Fits k s packet → IsCaseReply k s front packet reply → IsCaseReply k s front packet other → other ≡ reply
   one_reply front packet (FailedCheck check at) other fit fits one two = absurd one
   one_reply front packet (Innovative at) (FailedCheck check place) fit fits one two = absurd two
   one_reply front packet (Innovative at) (Innovative place) fit fits one two = ap Innovative (two.1 ∙ sym one.1)
-  one_reply front packet (Innovative at) (NotInnovative place) fit fits one two = absurd (one.0 (follows k s front packet fit fits two.0))
+  one_reply front packet (Innovative at) (NotInnovative place) fit fits one two = absurd (one.0 (laws.within_follows k s front packet fit fits two.0))
   one_reply front packet (Innovative at) (Conflicting place) fit fits one two = absurd (two.0.0 one.0)
   one_reply front packet (NotInnovative at) (FailedCheck check place) fit fits one two = absurd two
-  one_reply front packet (NotInnovative at) (Innovative place) fit fits one two = absurd (two.0 (follows k s front packet fit fits one.0))
+  one_reply front packet (NotInnovative at) (Innovative place) fit fits one two = absurd (two.0 (laws.within_follows k s front packet fit fits one.0))
   one_reply front packet (NotInnovative at) (NotInnovative place) fit fits one two = ap NotInnovative (two.1 ∙ sym one.1)
   one_reply front packet (NotInnovative at) (Conflicting place) fit fits one two = absurd (two.0.1 one.0)
   one_reply front packet (Conflicting at) (FailedCheck check place) fit fits one two = absurd two

@@ -11,22 +11,13 @@ use Rattle.linear_spec.specs.Symbols.{IsVector}
 use Rattle.linear_spec.specs.Packet.{Fits, coefficients_of}
 use Rattle.linear_spec.specs.Span.{InSpan, HasRank, HasRankAfter}
 use Rattle.linear_spec.specs.Cases.{IsFresh, IsWithin}
-use Rattle.linear_spec.specs.Rows.{StandForAll}
+use Rattle.linear_spec.specs.RowLaws.{CaseLaws, RowLaws}
+use Rattle.linear_spec.specs.SpanLaws.{RankLaws, SpanLaws}
 use Rattle.linear_spec.specs.SequentialBasis.{packets_of}
 use Rattle.basis_core.specs.Calls.{KeptCall, KeptOffer, KeptDraw}
 use Rattle.basis_core.specs.Run.{AreInnovative}
 use Rattle.basis_core.specs.Legal.{IsAnsweredOver, HasItsRecord, IsSpanned}
 use Rattle.basis_core.proofs.Law.{innovative_at}
-
--- the laws of spans, cases and ranks that are taken here
-pub record HasSpanLaws : Type 0 where
-  pub member : (n : ℕ) (front back : List (List ℕ)) (vector : List ℕ) → All (IsVector n) (front ++ vector ∷ back)
-      → InSpan n (front ++ vector ∷ back) vector
-  pub grows : (n : ℕ) (vectors more : List (List ℕ)) (vector : List ℕ) → All (IsVector n) (vectors ++ more)
-      → InSpan n vectors vector → InSpan n (vectors ++ more) vector
-  pub within_follows : (k s : ℕ) (front : List Packet) (packet : Packet) → All (Fits k s) front → Fits k s packet
-      → IsWithin k s front packet → InSpan k (coefficients_of front) packet.coeffs
-  pub some_rank : (n : ℕ) (vectors : List (List ℕ)) → All (IsVector n) vectors → (r : ℕ) × HasRank n vectors r
 
 -- the coefficients of packets that fit
 are_vectors : (k s : ℕ) (packets : List Packet) → All (Fits k s) packets → All (IsVector k) (coefficients_of packets)
@@ -44,7 +35,7 @@ decided n before (v ∷ vs) last r (inr fresh) =
     subst (λ us. InSpan n us last ⊎ (¬ InSpan n us last)) (append_assoc before (v ∷ []) vs)
     (decided n (before ++ v ∷ []) vs last fresh.1 fresh.3)
 
-module _ (laws : HasSpanLaws) (equations : Equations) (records : List Record)
+module _ (spans : SpanLaws) (cases : CaseLaws) (ranks : RankLaws) (equations : Equations) (records : List Record)
     (fit : All (Fits equations.k equations.s) (packets_of records)) where
   abbrev k : ℕ
   k = equations.k
@@ -59,7 +50,7 @@ module _ (laws : HasSpanLaws) (equations : Equations) (records : List Record)
       let whole : coefficients_of (take n packets) ++ coefficients_of (drop n packets) ≡ coefficients_of packets =
       sym (map-append coeffs (take n packets) (drop n packets)) ∙ ap coefficients_of (take-append-drop n packets) in
       subst (λ vs. InSpan k vs vector) whole
-      (laws.grows k (coefficients_of (take n packets)) (coefficients_of (drop n packets)) vector
+      (spans.grows k (coefficients_of (take n packets)) (coefficients_of (drop n packets)) vector
       (subst (All (IsVector k)) (sym whole) (are_vectors k equations.s packets fit)) span)
 
   -- a packet that is not fresh at a front follows from it
@@ -67,7 +58,7 @@ module _ (laws : HasSpanLaws) (equations : Equations) (records : List Record)
       → (¬ IsFresh k front packet) → InSpan k (coefficients_of front) packet.coeffs
   not_fresh front packet fit_front fits known =
       let vectors = coefficients_of front in
-      let rank = laws.some_rank k (vectors ++ packet.coeffs ∷ [])
+      let rank = ranks.some k (vectors ++ packet.coeffs ∷ [])
       (All-push (IsVector k) vectors packet.coeffs (are_vectors k equations.s front fit_front) fits.coeffs) in
       ⊎_elim (λ span. span) (λ fresh. absurd (known fresh)) (decided k [] vectors packet.coeffs rank.0 rank.1)
 
@@ -85,7 +76,7 @@ module _ (laws : HasSpanLaws) (equations : Equations) (records : List Record)
       let vectors = are_vectors k equations.s (take (at + 1) packets) (All-take (Fits k equations.s) (at + 1) packets fit) in
       from_front (at + 1) packet.coeffs
       (subst (λ vs. InSpan k vs packet.coeffs) (sym coefficients)
-      (laws.member k (coefficients_of (take at packets)) [] packet.coeffs (subst (All (IsVector k)) coefficients vectors)))
+      (spans.member k (coefficients_of (take at packets)) [] packet.coeffs (subst (All (IsVector k)) coefficients vectors)))
 
   pub spanned : (number : ℕ) (call : KeptCall) → HasItsRecord records number call → IsAnsweredOver equations records call
       → IsSpanned equations records call
@@ -96,7 +87,7 @@ module _ (laws : HasSpanLaws) (equations : Equations) (records : List Record)
       recorded at number packet it.within it.packet_is
   spanned number (KeptOffer tag packet (NotInnovative at)) own over = λ passes fits.
       from_front at packet.coeffs
-      (laws.within_follows k equations.s (take at packets) packet (All-take (Fits k equations.s) at packets fit) fits over.answered.1.0)
+      (cases.within_follows k equations.s (take at packets) packet (All-take (Fits k equations.s) at packets fit) fits over.answered.1.0)
   spanned number (KeptOffer tag packet (Conflicting at)) own over = λ passes fits.
       from_front at packet.coeffs (not_fresh (take at packets) packet (All-take (Fits k equations.s) at packets fit) fits over.answered.1.0.0)
   spanned number (KeptDraw tag drawn) own over = tt
@@ -108,15 +99,10 @@ module _ (laws : HasSpanLaws) (equations : Equations) (records : List Record)
 -- packets that are each fresh at those before it have their number as the rank
 pub rank_is_count : (equations : Equations) (records : List Record) → All (Fits equations.k equations.s) (packets_of records)
     → AreInnovative equations (packets_of records)
-    → ((k s : ℕ) (packets : List Packet) → All (Fits k s) packets
-    → ((at : ℕ) (packet : Packet) → at < length packets → IsFresh k (take at packets) (get_or packets at packet))
-    → (rows : List Packet) × StandForAll k s packets rows)
-    → ((k s : ℕ) (packets rows : List Packet) → All (Fits k s) packets → StandForAll k s packets rows
-    → HasRank k (coefficients_of packets) (length packets))
-    → HasRank equations.k (coefficients_of (packets_of records)) (length records)
-rank_is_count equations records fit innovative some rank =
+    → RowLaws → HasRank equations.k (coefficients_of (packets_of records)) (length records)
+rank_is_count equations records fit innovative laws =
     let packets = packets_of records in
-    let rows = some equations.k equations.s packets fit
+    let rows = laws.some equations.k equations.s packets fit
     (λ at packet below. innovative_at equations packets [] innovative at packet below) in
     subst (HasRank equations.k (coefficients_of packets)) (length-map records (λ (r : Record). r.packet))
-    (rank equations.k equations.s packets rows.0 fit rows.1)
+    (laws.packets_rank equations.k equations.s packets rows.0 fit rows.1)

@@ -1,14 +1,13 @@
 -- What a legal history tells of its records and of each given caller.
-use Rattle.std.proofs.Common.{◌≡◌, ℕ, ◌<◌, ◌≤◌, ◌^◌, List, [], map, length, take, get_or, Some, sym, ap, ◌∙◌, subst, arith}
+use Rattle.std.proofs.Common.{◌≡◌, ℕ, ◌<◌, ◌≤◌, ◌^◌, List, [], map, length, Some, sym, ap, ◌∙◌, subst, arith}
 use Rattle.std.specs.List.{All, AllByRecursion, filter}
 use Rattle.std.proofs.lemmas.List.{length-map}
 use Rattle.std.proofs.lemmas.List.Elements.{All-from_recursion, recursion_from_All}
 use Rattle.linear_spec.specs.declared.equations.Equations.{Equations}
 use Rattle.linear_spec.specs.declared.packet.Packet.{Packet}
 use Rattle.linear_spec.specs.declared.record.Record.{Record}
-use Rattle.linear_spec.specs.Cases.{IsFresh}
 use Rattle.linear_spec.specs.Packet.{Fits}
-use Rattle.linear_spec.specs.Rows.{StandForAll}
+use Rattle.linear_spec.specs.RowLaws.{RowLaws}
 use Rattle.linear_spec.specs.SequentialBasis.{packets_of}
 use Rattle.basis_core.specs.Calls.{KeptCall, point_of, AreInOrder}
 use Rattle.basis_core.specs.Run.{AreInnovative, is_by}
@@ -49,15 +48,11 @@ once equations given records number calls legal some =
 
 -- packets that are each fresh at those before it are at most as many as a packet has coefficients
 pub at_most : (equations : Equations) (records : List Record) → All (Fits equations.k equations.s) (packets_of records) → AreInnovative equations (packets_of records)
-    → ((k s : ℕ) (packets : List Packet) → All (Fits k s) packets
-    → ((at : ℕ) (packet : Packet) → at < length packets → IsFresh k (take at packets) (get_or packets at packet))
-    → (rows : List Packet) × StandForAll k s packets rows)
-    → ((k s : ℕ) (packets rows : List Packet) → StandForAll k s packets rows → length rows ≤ k)
-    → length records ≤ equations.k
-at_most equations records fit innovative some most =
+    → RowLaws → length records ≤ equations.k
+at_most equations records fit innovative laws =
     let packets = packets_of records in
-    let rows = some equations.k equations.s packets fit (λ at packet below. innovative_at equations packets [] innovative at packet below) in
-    let bound = most equations.k equations.s packets rows.0 rows.1 in
+    let rows = laws.some equations.k equations.s packets fit (λ at packet below. innovative_at equations packets [] innovative at packet below) in
+    let bound = laws.at_most equations.k equations.s packets rows.0 rows.1 in
     let count = rows.1.count in
     let long = length-map records (λ r. r.packet) in
     omega arith

@@ -2,11 +2,11 @@
 use Rattle.std.proofs.Common.{ℕ, ◌≡◌, ◌*◌, ◌-◌, ◌%◌, ◌<◌, ◌^◌, List, Result, Ok, Err, IfOk, length, take, drop, min, ap, ◌∙◌, arith}
 use Rattle.std.proofs.lemmas.List.{drop_min, take_rest}
 use Rattle.std.proofs.lemmas.List.Elements.{All-drop}
+use Rattle.linear_spec.specs.SymbolLaws.{SymbolLaws}
 use Rattle.linear_spec.specs.Symbols.{AreBytes, AreSymbols, IsVector, be_bytes_of, symbols_of}
 use Rattle.generation.specs.Shape.{Dimensions, IsShape, symbols_per_block}
 use Rattle.generation.specs.Blocks.{block_at, zero_padded}
 use Rattle.generation.proofs.PaddingLemmas.{AreBytes-zero_padded, length-zero_padded}
-use Rattle.generation.proofs.Spelling.{BytesAreTwice, BytesComeBack, BytesSpell}
 
 -- a vector that was read, by its count and its symbols
 pub IfOk-vector : {E : Type 0} (n : ℕ) (r : Result (List ℕ) E) → IfOk r (λ v. length v ≡ n) → IfOk r AreSymbols → IfOk r (IsVector n)
@@ -29,13 +29,13 @@ module _ (d : Dimensions) (shape : IsShape d) (file : List ℕ) (are : AreBytes 
   even-piece : (n : ℕ) → length (zero_padded d.block (drop (n * d.block) file)) % 2 ≡ 0
   even-piece n = rw (length-zero_padded d.block (drop (n * d.block) file)) shape.block.0
 
-  pub be_bytes_of-block_at : BytesComeBack → (n : ℕ) → be_bytes_of (block_at d file n) ≡ zero_padded d.block (drop (n * d.block) file)
+  pub be_bytes_of-block_at : SymbolLaws → (n : ℕ) → be_bytes_of (block_at d file n) ≡ zero_padded d.block (drop (n * d.block) file)
   unfolding block_at
-  be_bytes_of-block_at back n = back _ (AreBytes-piece n) (even-piece n)
+  be_bytes_of-block_at laws n = laws.bytes _ (AreBytes-piece n) (even-piece n)
 
-  pub IsVector-block_at : BytesAreTwice → BytesComeBack → BytesSpell → (n : ℕ) → IsVector (symbols_per_block d) (block_at d file n)
+  pub IsVector-block_at : SymbolLaws → (n : ℕ) → IsVector (symbols_per_block d) (block_at d file n)
   unfolding block_at
-  IsVector-block_at twice back spell n =
+  IsVector-block_at laws n =
       let piece = zero_padded d.block (drop (n * d.block) file) in
-      let whole = ap length (be_bytes_of-block_at back n) ∙ length-zero_padded d.block (drop (n * d.block) file) in
-      record { count = omega (arith, twice (symbols_of piece), whole); symbols = spell piece (AreBytes-piece n) }
+      let whole = ap length (be_bytes_of-block_at laws n) ∙ length-zero_padded d.block (drop (n * d.block) file) in
+      record { count = omega (arith, laws.length (symbols_of piece), whole); symbols = laws.are_symbols piece (AreBytes-piece n) }

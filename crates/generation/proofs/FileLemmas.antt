@@ -5,10 +5,10 @@ use Rattle.std.specs.List.{All, flat_map}
 use Rattle.std.proofs.lemmas.Grind.{div_ceil_times}
 use Rattle.std.proofs.lemmas.List.{length-take-le}
 use Rattle.std.proofs.lemmas.List.Elements.{All-head, All-tail}
+use Rattle.linear_spec.specs.SymbolLaws.{SymbolLaws}
 use Rattle.linear_spec.specs.Symbols.{IsVector, be_bytes_of}
 use Rattle.generation.specs.Shape.{Dimensions, IsShape, generations_of, symbols_per_block}
 use Rattle.generation.specs.Blocks.{AreBlocks, file_of}
-use Rattle.generation.proofs.Spelling.{BytesAreTwice}
 
 -- the generations hold the file
 pub len-le-blocks : (d : Dimensions) → IsShape d → d.len ≤ generations_of d * d.k * d.block
@@ -18,13 +18,13 @@ len-le-blocks d shape =
     let enough = div_ceil_times d.len (d.k * d.block) room in
     rw (mul_assoc (generations_of d) d.k d.block) enough.0
 
-module _ (twice : BytesAreTwice) where
+module _ (laws : SymbolLaws) where
   -- the bytes of vectors of s symbols
   length-flat_map-be_bytes_of : (s : ℕ) (vectors : List (List ℕ)) → All (IsVector s) vectors → length (flat_map be_bytes_of vectors) ≡ length vectors * (2 * s)
   length-flat_map-be_bytes_of s [] all = omega arith
   length-flat_map-be_bytes_of s (v ∷ vs) all =
       let first = All-head (IsVector s) v vs all in
-      omega (arith, length-append (be_bytes_of v) (flat_map be_bytes_of vs), twice v, first.count, length-flat_map-be_bytes_of s vs (All-tail (IsVector s) v vs all))
+      omega (arith, length-append (be_bytes_of v) (flat_map be_bytes_of vs), laws.length v, first.count, length-flat_map-be_bytes_of s vs (All-tail (IsVector s) v vs all))
 
   -- the bytes of a shape's blocks
   pub length-block_bytes : (d : Dimensions) (blocks : List (List ℕ)) → IsShape d → AreBlocks d blocks → length (flat_map be_bytes_of blocks) ≡ generations_of d * d.k * d.block

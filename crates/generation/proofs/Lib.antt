@@ -2,4 +2,3 @@ pub mod BlockLemmas
 pub mod CutLemmas
 pub mod FileLemmas
 pub mod PaddingLemmas
-pub mod Spelling

@@ -100,7 +100,7 @@ module _ (field : IsField) (k s : ℕ) (packets rows : List Packet) (packet : Pa
   )
 
 -- a multiple that is not 0 keeps the place of the first symbol that is not 0
-first_nonzero-scaled : (field : IsField) (c : ℕ) (v : List ℕ) → IsSymbol c → c ≢ 0 → AreSymbols v → first_nonzero (scaled c v) ≡ first_nonzero v
+pub first_nonzero-scaled : (field : IsField) (c : ℕ) (v : List ℕ) → IsSymbol c → c ≢ 0 → AreSymbols v → first_nonzero (scaled c v) ≡ first_nonzero v
 first_nonzero-scaled field c [] by_c some fit = refl
 first_nonzero-scaled field c (zero ∷ v) by_c some fit =
     rw (field.product_zero c) (ap (λ n. 1 + n) (first_nonzero-scaled field c v by_c some (All-tail IsSymbol 0 v fit)))

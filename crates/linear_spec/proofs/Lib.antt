@@ -1,8 +1,11 @@
+pub mod ChangedPlace
 pub mod CheckLaws
 pub mod Decision
 pub mod Echelon
 pub mod Examined
+pub mod Filling
 pub mod FirstNonzero
+pub mod FullRank
 pub mod PacketLaws
 pub mod RankBounds
 pub mod RankSpans
@@ -12,10 +15,13 @@ pub mod RowLaws
 pub mod RowPlaces
 pub mod RowSpans
 pub mod RowsFill
+pub mod RowsUnique
 pub mod Solutions
+pub mod Solvable
 pub mod SpanChanges
 pub mod SpanDecides
 pub mod SpanLaws
 pub mod SymbolLemmas
+pub mod UnitVectors
 pub mod VectorLaws
 pub mod VectorSums

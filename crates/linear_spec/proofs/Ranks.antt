@@ -41,7 +41,7 @@ rank_some_after field n before (v ∷ vs) by_before are =
 pub rank_some : (field : IsField) (n : ℕ) (vs : List (List ℕ)) → All (IsVector n) vs → (r : ℕ) × HasRank n vs r
 rank_some field n vs are = rank_some_after field n [] vs (All-nil (IsVector n)) are
 
-rank_at_most_length_after : (n : ℕ) (before vs : List (List ℕ)) (r : ℕ) → HasRankAfter n before vs r → r ≤ length vs
+pub rank_at_most_length_after : (n : ℕ) (before vs : List (List ℕ)) (r : ℕ) → HasRankAfter n before vs r → r ≤ length vs
 rank_at_most_length_after n before [] r rank = omega arith
 rank_at_most_length_after n before (v ∷ vs) r (inl within) = let rest = rank_at_most_length_after n (before ++ v ∷ []) vs r within.1 in omega arith
 rank_at_most_length_after n before (v ∷ vs) r (inr fresh) =

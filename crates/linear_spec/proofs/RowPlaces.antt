@@ -55,7 +55,7 @@ module _ (k s : ℕ) (packets rows : List Packet) (stand : StandForAll k s packe
   clear_below v clear i d h = get_or-take k v (pivot_of (get_or rows i d)) 0 (pivots_below i d h) ∙ clear i d h
 
   -- a vector's symbol at a place below k is a coefficient
-  at_coefficient : (packet : Packet) (place : ℕ) → Fits k s packet → place < k → get_or (vector_of packet) place 0 ≡ get_or packet.coeffs place 0
+  pub at_coefficient : (packet : Packet) (place : ℕ) → Fits k s packet → place < k → get_or (vector_of packet) place 0 ≡ get_or packet.coeffs place 0
   at_coefficient packet place fits h =
       let count = fits.coeffs.count in
       get_or_append_left packet.coeffs packet.payload 0 place (omega arith)

@@ -30,6 +30,13 @@ IsVector-unit k column =
       symbols = All-set IsSymbol (replicate k 0) column 1 (lit< tt) zeros.symbols;
     }
 
+-- a place at which a vector is not 0 is one of its places
+pub place_below : (k : ℕ) (v : List ℕ) (place : ℕ) → IsVector k v → get_or v place 0 ≢ 0 → place < k
+place_below k v place by_v some =
+    let count = by_v.count in
+    let cases : (place < k) ⊎ (k ≤ place) = grind arith in
+    ⊎_elim (λ below. below) (λ past. absurd (some (get_or_past v place 0 (omega arith)))) cases
+
 zero_or : (x : ℕ) → (x ≢ 0 → ⊥) → x ≡ 0
 zero_or zero none = refl
 zero_or (suc x) none = absurd (none (λ e. absurd (omega arith)))
@@ -75,7 +82,7 @@ module _ (field : IsField) (k : ℕ) where
       at (suc i) below e = (i, omega arith, e)
 
   -- a vector whose symbols that are not 0 stand at these columns
-  span-units : (columns : List ℕ) (v : List ℕ) → IsVector k v
+  pub span-units : (columns : List ℕ) (v : List ℕ) → IsVector k v
       → ((place : ℕ) → get_or v place 0 ≢ 0 → Contains columns place) → InSpan k (map (unit_of k) columns) v
   span-units [] v by_v within =
       let zeros = IsVector-replicate k in
@@ -157,9 +164,3 @@ rows_fill field k s packets rows stand vector by_vector =
     (span-plus_scaled field k 1 (coefficients ++ units) (plus_scaled vector 1 rest) rest by_all (lit< tt)
     (span-grows field k coefficients units (plus_scaled vector 1 rest) by_all sum)
     (span-closed field k units (coefficients ++ units) rest by_units by_all members in_units))
-  where
-    place_below : (k : ℕ) (v : List ℕ) (place : ℕ) → IsVector k v → get_or v place 0 ≢ 0 → place < k
-    place_below k v place by_v some =
-        let count = by_v.count in
-        let cases : (place < k) ⊎ (k ≤ place) = grind arith in
-        ⊎_elim (λ below. below) (λ past. absurd (some (get_or_past v place 0 (omega arith)))) cases

@@ -1,11 +1,9 @@
 -- Blocks that solve packets solve all that the packets span, and at full rank there is one list of them. One block more
 -- solves one row more.
-use Rattle.std.proofs.Common.{◌≡◌, ℕ, zero, suc, ◌+◌, ◌<◌, List, [], ◌∷◌, ◌++◌, length, take, drop, get_or, set, replicate, sym, ap, ◌∙◌, lit<, arith}
+use Rattle.std.proofs.Common.{◌≡◌, ℕ, zero, suc, ◌+◌, ◌<◌, List, [], ◌∷◌, ◌++◌, length, take, drop, get_or, set, replicate, sym, ap, ◌∙◌, arith}
 use Rattle.std.specs.List.{All}
-use Rattle.std.proofs.lemmas.List.{length-map, length-replicate, length_push, take_at, drop_at, ext_get_or}
-use Rattle.std.proofs.lemmas.List.Elements.{All-replicate, All-set}
-use Rattle.std.proofs.Math.ListN.{length-set}
-use Rattle.gf16.specs.Field.{IsSymbol, IsField}
+use Rattle.std.proofs.lemmas.List.{length-map, length_push, take_at, drop_at, ext_get_or}
+use Rattle.gf16.specs.Field.{IsField}
 use Rattle.gf16.specs.Sums.{plus_scaled}
 use Rattle.linear_spec.specs.declared.packet.Packet.{Packet}
 use Rattle.linear_spec.specs.Symbols.{AreSymbols, IsVector}
@@ -24,6 +22,7 @@ use Rattle.linear_spec.proofs.RowSpans.{All-from_map, IsVector-vectors, IsVector
 use Rattle.linear_spec.proofs.SpanDecides.{span_decides}
 use Rattle.linear_spec.proofs.Decision.{row_joins}
 use Rattle.linear_spec.proofs.RankBounds.{fresh_gives_row, rows_at_most}
+use Rattle.linear_spec.proofs.RowsFill.{IsVector-unit}
 
 -- ---- what solves packets solves what they span
 
@@ -81,13 +80,7 @@ module _ (field : IsField) (k s : ℕ) (packets rows : List Packet) (fit : All (
 
 -- ---- unit vectors pick
 
-IsVector-unit : (k column : ℕ) → IsVector k (unit_of k column)
-IsVector-unit k column = record {
-  count = length-set (replicate k 0) column 1 ∙ length-replicate k 0;
-  symbols = All-set IsSymbol (replicate k 0) column 1 (lit< tt) (All-replicate IsSymbol k 0 (lit< tt));
-}
-
-combination-unit : (field : IsField) (s k column : ℕ) (blocks : List (List ℕ)) → length blocks ≡ k → All (IsVector s) blocks → column < k
+pub combination-unit : (field : IsField) (s k column : ℕ) (blocks : List (List ℕ)) → length blocks ≡ k → All (IsVector s) blocks → column < k
     → combination_of s (unit_of k column) blocks ≡ get_or blocks column []
 combination-unit field s zero column blocks count vectors below = absurd (omega arith)
 combination-unit field s (suc k) column [] count vectors below = absurd (omega arith)

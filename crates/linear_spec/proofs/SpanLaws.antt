@@ -13,7 +13,7 @@ pub use Rattle.linear_spec.proofs.VectorLaws.{length-plus_scaled, take-plus_scal
 
 -- ---- combinations
 
-dot-nil : (cs : List ℕ) → dot_of cs [] ≡ 0
+pub dot-nil : (cs : List ℕ) → dot_of cs [] ≡ 0
 dot-nil [] = refl
 dot-nil (c ∷ cs) = refl
 

@@ -37,10 +37,10 @@ append-plus_scaled c (x ∷ u) [] t w same = absurd (omega arith)
 append-plus_scaled c (x ∷ u) (y ∷ v) t w same = ap (λ r. sum_of x (product_of c y) ∷ r) (append-plus_scaled c u v t w (omega arith))
 
 module _ (field : IsField) where
-  sum-exchange : (x y z : ℕ) → sum_of (sum_of x y) z ≡ sum_of (sum_of x z) y
+  pub sum-exchange : (x y z : ℕ) → sum_of (sum_of x y) z ≡ sum_of (sum_of x z) y
   sum-exchange x y z = field.sum_associates x y z ∙ ap (sum_of x) (field.sum_commutes y z) ∙ sym (field.sum_associates x z y)
 
-  sum-twice : (x y : ℕ) → sum_of (sum_of x y) y ≡ x
+  pub sum-twice : (x y : ℕ) → sum_of (sum_of x y) y ≡ x
   sum-twice x y = field.sum_associates x y y ∙ ap (sum_of x) (field.sum_self y) ∙ field.sum_zero x
 
   -- ---- the laws of plus_scaled

@@ -18,3 +18,4 @@ pub mod SymbolLaws
 pub mod Symbols
 pub mod Told
 pub mod UnitVector
+pub mod VectorLaws

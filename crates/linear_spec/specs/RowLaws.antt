@@ -1,7 +1,7 @@
 -- The laws of rows, of what they leave of a vector, and of the cases that this tells, for all lists of packets.
 -- k, s: the numbers of coefficients and of payload symbols of each packet. n: a number of packets, or of symbols.
 -- at, i, j: places in a list.
-use Rattle.std.specs.Prelude.{◌≡◌, ◌≢◌, ◌↔◌, ◌+◌, ◌<◌, ◌≤◌, ℕ, List, [], ◌∷◌, ◌++◌, length, replicate, take, drop, slice_index, slice_index_or}
+use Rattle.std.specs.Prelude.{◌≡◌, ◌≢◌, ◌↔◌, ◌+◌, ◌<◌, ◌≤◌, ℕ, List, [], ◌∷◌, ◌++◌, length, map, replicate, take, drop, slice_index, slice_index_or}
 use Rattle.std.specs.List.{All}
 use Rattle.gf16.specs.Sums.{plus_scaled}
 use Rattle.linear_spec.specs.declared.packet.Packet.{Packet}
@@ -9,7 +9,8 @@ use Rattle.linear_spec.specs.Symbols.{IsVector}
 use Rattle.linear_spec.specs.Packet.{Fits, vector_of, vectors_of, coefficients_of}
 use Rattle.linear_spec.specs.Span.{InSpan, HaveOneSpan, HasRank}
 use Rattle.linear_spec.specs.Cases.{IsFresh, IsWithin, IsConflicting, IsOneCase}
-use Rattle.linear_spec.specs.Rows.{StandsFor, StandForAll, SpanAllWithMissing, IsRowOf, pivot_of, remainder_of}
+use Rattle.linear_spec.specs.Rows.{StandsFor, StandForAll, SpanAllWithMissing, IsRowOf, missing_columns_of, pivot_of, remainder_of}
+use Rattle.linear_spec.specs.UnitVector.{unit_of}
 
 -- rows that stand for packets, and the packets: one span, and their number as the rank of both
 pub record RowLaws : Type 0 where
@@ -101,3 +102,32 @@ pub record CaseLaws : Type 0 where
   pub fresh_first : (k : ℕ) (packet : Packet) → IsFresh k [] packet ↔ (packet.coeffs ≢ replicate k 0)
   -- and within is the zero vector alone
   pub within_first : (k s : ℕ) (packet : Packet) → IsWithin k s [] packet ↔ (vector_of packet ≡ replicate (k + s) 0)
+
+-- rows that stand for the same packets are the same but for their generations, which count nowhere
+pub record MissingColumnLaws : Type 0 where
+  -- the same vectors
+  pub vectors : (k s : ℕ) (packets rows others : List Packet) → All (Fits k s) packets → StandForAll k s packets rows
+      → StandForAll k s packets others → vectors_of others ≡ vectors_of rows
+  -- with the same pivots
+  pub pivots : (k s : ℕ) (packets rows others : List Packet) → All (Fits k s) packets → StandForAll k s packets rows
+      → StandForAll k s packets others → map pivot_of others ≡ map pivot_of rows
+  -- so the missing columns are a fact of the packets
+  pub columns : (k s : ℕ) (packets rows others : List Packet) → All (Fits k s) packets → StandForAll k s packets rows
+      → StandForAll k s packets others → missing_columns_of k others ≡ missing_columns_of k rows
+
+-- how the missing columns fill what packets lack. units: packets whose coefficients are the unit vectors of the missing
+-- columns, in their order
+pub record FillingLaws : Type 0 where
+  -- rows and missing columns are k together
+  pub count : (k s : ℕ) (packets rows : List Packet) → StandForAll k s packets rows → length rows + length (missing_columns_of k rows) ≡ k
+  -- each of the units is fresh after the packets and the units before it
+  pub fresh : (k s at : ℕ) (packets rows units : List Packet) (packet : Packet) → All (Fits k s) packets → StandForAll k s packets rows
+      → coefficients_of units ≡ map (unit_of k) (missing_columns_of k rows) → at < length units
+      → IsFresh k (packets ++ take at units) (slice_index_or units at packet)
+  -- with all of them the rank is k
+  pub rank : (k s : ℕ) (packets rows units : List Packet) → All (Fits k s) packets → StandForAll k s packets rows
+      → coefficients_of units ≡ map (unit_of k) (missing_columns_of k rows) → HasRank k (coefficients_of (packets ++ units)) k
+  -- and every vector of k symbols lies in the span
+  pub span : (k s : ℕ) (packets rows units : List Packet) (vector : List ℕ) → All (Fits k s) packets → StandForAll k s packets rows
+      → coefficients_of units ≡ map (unit_of k) (missing_columns_of k rows) → IsVector k vector
+      → InSpan k (coefficients_of (packets ++ units)) vector

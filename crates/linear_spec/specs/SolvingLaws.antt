@@ -8,7 +8,7 @@ use Rattle.linear_spec.specs.Symbols.{AreSymbols, IsVector}
 use Rattle.linear_spec.specs.Combination.{combination_of}
 use Rattle.linear_spec.specs.Packet.{Fits}
 use Rattle.linear_spec.specs.Rows.{StandForAll}
-use Rattle.linear_spec.specs.Solving.{Solves}
+use Rattle.linear_spec.specs.Solving.{IsOnlySolution, Solves}
 
 -- the laws of solving, for all packets that fit and the rows that stand for them
 pub record SolvingLaws : Type 0 where
@@ -26,3 +26,12 @@ pub record SolvingLaws : Type 0 where
   pub kept : (s place : ℕ) (coeffs block : List ℕ) (blocks : List (List ℕ))
       → place < length blocks → slice_index_or blocks place [] ≡ replicate s 0 → slice_index coeffs place ≡ 0
       → combination_of s coeffs (slice_set blocks place block) ≡ combination_of s coeffs blocks
+
+-- packets that fit and have rows can be solved
+pub record SolutionLaws : Type 0 where
+  -- at least one list of blocks solves them
+  pub some : (k s : ℕ) (packets rows : List Packet) → All (Fits k s) packets → StandForAll k s packets rows
+      → (blocks : List (List ℕ)) × Solves k s packets blocks
+  -- and just one where there are k packets
+  pub one : (k s : ℕ) (packets rows : List Packet) → All (Fits k s) packets → StandForAll k s packets rows → length packets ≡ k
+      → (blocks : List (List ℕ)) × Solves k s packets blocks × IsOnlySolution k s packets blocks

@@ -96,3 +96,17 @@ pub record RankLaws : Type 0 where
   -- lists of one span have one rank
   pub one_span : (n r : ℕ) (vectors others : List (List ℕ)) → All (IsVector n) vectors → All (IsVector n) others
       → HaveOneSpan n vectors others → HasRank n vectors r → HasRank n others r
+
+-- what a rank as large as can be tells
+pub record FullRankLaws : Type 0 where
+  -- vectors of n symbols and rank n span every vector of n symbols
+  pub spans : (n : ℕ) (vectors : List (List ℕ)) (vector : List ℕ) → All (IsVector n) vectors → HasRank n vectors n
+      → IsVector n vector → InSpan n vectors vector
+  -- vectors that span all of these have rank n
+  pub full : (n : ℕ) (vectors : List (List ℕ)) → All (IsVector n) vectors
+      → ((vector : List ℕ) → IsVector n vector → InSpan n vectors vector) → HasRank n vectors n
+  -- more vectors leave rank n as it is
+  pub more : (n : ℕ) (front back : List (List ℕ)) → All (IsVector n) (front ++ back) → HasRank n front n → HasRank n (front ++ back) n
+  -- where the rank is the number of the vectors, none lies in the span of those before it
+  pub fresh : (n at : ℕ) (vectors : List (List ℕ)) → HasRank n vectors (length vectors) → at < length vectors
+      → ¬ InSpan n (take at vectors) (slice_index_or vectors at [])

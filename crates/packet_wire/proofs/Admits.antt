@@ -2,6 +2,7 @@
 use Rattle.std.proofs.Common.{◌≡◌, ℕ, ◌+◌, ◌<◌, ◌≤◌, Bool, true, false, not, ◌&&◌, ◌==◌, if◌then◌else◌, List, [], ◌∷◌, ◌++◌, length, Option, Some, None, refl, ap, sym, subst, ◌∙◌, arith}
 use Rattle.std.proofs.lemmas.Bool.{eqb-true}
 use Rattle.std.proofs.lemmas.List.{length-append}
+use Rattle.linear_spec.specs.SymbolLaws.{SymbolLaws}
 use Rattle.linear_spec.specs.Symbols.{AreBytes}
 use Rattle.packet_wire.specs.Admitting.{FailsNow, MakesFrame}
 use Rattle.packet_wire.specs.declared.fault.WireFault.{WireFault}
@@ -12,7 +13,7 @@ use Rattle.packet_wire.specs.Faults.{IsPartOfFrame, NothingFails}
 use Rattle.packet_wire.specs.Judgements.{Judgement, body_judgements, body_len_in, fault_at, first_failure, head_judgements, judgements}
 use Rattle.packet_wire.specs.Making.{IsWholeFrame, frame_in}
 use Rattle.packet_wire.proofs.Steps.{nothing_fails_more, whole_more}
-use Rattle.packet_wire.proofs.Wholes.{SymbolLaws, made}
+use Rattle.packet_wire.proofs.Wholes.{made}
 
 -- ---- a fault lies among the bytes that are judged
 

@@ -1,6 +1,7 @@
 -- What the answers of a decoder say.
 use Rattle.std.proofs.Common.{◌≡◌, ◌⊎◌, ◌≢◌, ◌↔◌, ℕ, List, [], ◌++◌, length, Option, Result, Some, None, Ok, Err, OnOk, IsErrOf, refl, ap, sym, subst, ◌∙◌, arith, inl, inr}
 use Rattle.std.proofs.lemmas.List.{length-append}
+use Rattle.linear_spec.specs.SymbolLaws.{SymbolLaws}
 use Rattle.packet_wire.specs.declared.decoder.Decoder.{Decoder}
 use Rattle.packet_wire.specs.declared.fault.FaultKind.TheVariants as kinds
 use Rattle.packet_wire.specs.declared.fault.FeedError.{FeedError}
@@ -13,7 +14,7 @@ use Rattle.packet_wire.specs.Frames.{frames_spelling}
 use Rattle.packet_wire.specs.Faults.{FailsAfter, HasFailing, IsFirstFault, IsPartOfFrame, IsRead, NothingFails}
 use Rattle.packet_wire.specs.Decoding.{AreStreamFrames, FailsIn, HasFailed, IfFault, IsAfter, IsAfterAt, IsFed, IsOutOfMemory, IsReading, NothingFailsIn, ReadsOn, UnlessMemory, answer_of, taken_by}
 use Rattle.packet_wire.proofs.Feeding.{reading_at}
-use Rattle.packet_wire.proofs.Readings.{BytesLaws, not_both, one_reading}
+use Rattle.packet_wire.proofs.Readings.{not_both, one_reading}
 use Rattle.packet_wire.proofs.Steps.{nothing_fails_in_nothing, nothing_is_part}
 use Rattle.packet_wire.proofs.Streams.{one_failing, one_first_fault, read_is_stream, stream_or_fault}
 
@@ -26,7 +27,7 @@ not_after_memory : (d : Decoder) (fed : List ℕ) (given : List Frame) → d.fai
 not_after_memory d fed given is after = subst (λ (failure : Option FeedError). IsAfterAt failure d fed given) is after
 
 -- where a judgement fails, it is at that fault
-is_at_fault : BytesLaws → (d : Decoder) (fed : List ℕ) (given : List Frame) (fault : WireFault) (failure : Option FeedError) → d.failure ≡ failure → IsAfter d fed given → HasFailing fed fault → d.failure ≡ Some (Fault fault)
+is_at_fault : SymbolLaws → (d : Decoder) (fed : List ℕ) (given : List Frame) (fault : WireFault) (failure : Option FeedError) → d.failure ≡ failure → IsAfter d fed given → HasFailing fed fault → d.failure ≡ Some (Fault fault)
 is_at_fault laws d fed given fault None is after failing =
     let reading = reading_at d fed given is after in
     absurd (not_both laws BeforeManifest fed given failing.0 d.held.items failing.1.0 tt reading.read failing.1.1)
@@ -46,7 +47,7 @@ unless_memory failure result P is fact =
     by_cases (Some (Fault fault)) at = fact (λ memory. absurd (let w : Some (Fault fault) ≡ Some Memory = sym at ∙ memory in cc))
     by_cases (Some Memory) at = tt
 
-pub nothing_fails_in : BytesLaws → (before : Decoder) (piece : List ℕ) (after : Decoder) (fs fs' : List Frame) (result : Result (Unit {0}) FeedError) → IsFed before piece after fs fs' → result ≡ answer_of after.failure → OnOk result (NothingFailsIn before piece)
+pub nothing_fails_in : SymbolLaws → (before : Decoder) (piece : List ℕ) (after : Decoder) (fs fs' : List Frame) (result : Result (Unit {0}) FeedError) → IsFed before piece after fs fs' → result ≡ answer_of after.failure → OnOk result (NothingFailsIn before piece)
 nothing_fails_in laws before piece after fs fs' result fed-is is =
     subst (λ (r : Result (Unit {0}) FeedError). OnOk r (NothingFailsIn before piece)) (sym is) (by_cases after.failure refl)
   where
@@ -80,7 +81,7 @@ fails_in before piece after fs fs' result fed-is is =
         let no-memory : ¬ IsOutOfMemory after = λ memory. absurd (let w : Some (Fault fault) ≡ Some Memory = sym at ∙ memory in cc) in
         failing_at after (fed ++ piece) (given ++ more) fault at (fed-is.goes_on no-memory fed given more after-fed grown)
 
-pub stays_at_fault : BytesLaws → (before : Decoder) (piece : List ℕ) (after : Decoder) (fs fs' : List Frame) (result : Result (Unit {0}) FeedError) → IsFed before piece after fs fs' → result ≡ answer_of after.failure → (fault : WireFault) → HasFailed before fault → IsErrOf result (Fault fault) × (fs' ≡ fs)
+pub stays_at_fault : SymbolLaws → (before : Decoder) (piece : List ℕ) (after : Decoder) (fs fs' : List Frame) (result : Result (Unit {0}) FeedError) → IsFed before piece after fs fs' → result ≡ answer_of after.failure → (fault : WireFault) → HasFailed before fault → IsErrOf result (Fault fault) × (fs' ≡ fs)
 stays_at_fault laws before piece after fs fs' result fed-is is fault failed =
     let at = is_at_fault laws before failed.0 failed.1 fault before.failure refl failed.2 (failed.1, failed.3) in
     let kept = fed-is.kept (Fault fault) at in
@@ -121,12 +122,12 @@ after_nothing d failure phase start held =
 -- ---- the end of the input
 
 -- it failed
-pub failed_stream : BytesLaws → (d : Decoder) (error : FeedError) → d.failure ≡ Some error → (fed : List ℕ) (given : List Frame) (contents : Contents) → IsAfter d fed given → IsStream fed contents → ⊥
+pub failed_stream : SymbolLaws → (d : Decoder) (error : FeedError) → d.failure ≡ Some error → (fed : List ℕ) (given : List Frame) (contents : Contents) → IsAfter d fed given → IsStream fed contents → ⊥
 failed_stream laws d (Fault fault) is fed given contents after stream =
     stream_or_fault laws fed contents fault stream (inl (given, failing_at d fed given fault is after))
 failed_stream laws d Memory is fed given contents after stream = not_after_memory d fed given is after
 
-pub failed_fault : BytesLaws → (d : Decoder) (error : FeedError) → d.failure ≡ Some error → (fed : List ℕ) (given : List Frame) (fault : WireFault) → IsAfter d fed given → (error ≡ Fault fault) ↔ IsFirstFault fed fault
+pub failed_fault : SymbolLaws → (d : Decoder) (error : FeedError) → d.failure ≡ Some error → (fed : List ℕ) (given : List Frame) (fault : WireFault) → IsAfter d fed given → (error ≡ Fault fault) ↔ IsFirstFault fed fault
 failed_fault laws d (Fault other) is fed given fault after =
     let at : IsFirstFault fed other = inl (given, failing_at d fed given other is after) in (
       λ same. let faults : other ≡ fault = cc in subst (λ (f : WireFault). IsFirstFault fed f) faults at,
@@ -140,7 +141,7 @@ ended_stream d failure phase fed given after =
     let reading = reading_at d fed given failure after in
     read_is_stream fed given d.held.items reading.read (sym reading.phase_is ∙ phase)
 
-pub ended_fault : BytesLaws → (d : Decoder) → d.failure ≡ None → d.phase ≡ Ended → (fed : List ℕ) (given : List Frame) (fault : WireFault) → IsAfter d fed given → IsFirstFault fed fault → ⊥
+pub ended_fault : SymbolLaws → (d : Decoder) → d.failure ≡ None → d.phase ≡ Ended → (fed : List ℕ) (given : List Frame) (fault : WireFault) → IsAfter d fed given → IsFirstFault fed fault → ⊥
 ended_fault laws d failure phase fed given fault after first =
     let stream = ended_stream d failure phase fed given after in
     stream_or_fault laws fed stream.0 fault stream.1 first
@@ -152,11 +153,11 @@ short_fault d failure phase fed given after =
     let count : taken_by d ≡ length fed = omega (arith, reading.start_is, d.held.ok.0, ap length reading.read.spelled, length-append (frames_spelling given) d.held.items) in
     inr (given, d.held.items, reading.read, λ ended. phase (reading.phase_is ∙ ended), ap (λ (n : ℕ). record { offset = n; kind = kinds.Truncated }) count)
 
-pub short_stream : BytesLaws → (d : Decoder) → d.failure ≡ None → d.phase ≢ Ended → (fed : List ℕ) (given : List Frame) (contents : Contents) → IsAfter d fed given → IsStream fed contents → ⊥
+pub short_stream : SymbolLaws → (d : Decoder) → d.failure ≡ None → d.phase ≢ Ended → (fed : List ℕ) (given : List Frame) (contents : Contents) → IsAfter d fed given → IsStream fed contents → ⊥
 short_stream laws d failure phase fed given contents after stream =
     stream_or_fault laws fed contents (record { offset = taken_by d; kind = kinds.Truncated }) stream (short_fault d failure phase fed given after)
 
-pub short_only : BytesLaws → (d : Decoder) → d.failure ≡ None → d.phase ≢ Ended → (fed : List ℕ) (given : List Frame) (fault : WireFault) → IsAfter d fed given → (record { offset = taken_by d; kind = kinds.Truncated } ≡ fault) ↔ IsFirstFault fed fault
+pub short_only : SymbolLaws → (d : Decoder) → d.failure ≡ None → d.phase ≢ Ended → (fed : List ℕ) (given : List Frame) (fault : WireFault) → IsAfter d fed given → (record { offset = taken_by d; kind = kinds.Truncated } ≡ fault) ↔ IsFirstFault fed fault
 short_only laws d failure phase fed given fault after =
     let at = short_fault d failure phase fed given after in
     (λ same. subst (λ (f : WireFault). IsFirstFault fed f) same at, λ first. one_first_fault laws fed _ fault at first)
@@ -171,7 +172,7 @@ meaning_at (Some Memory) d fed given after = absurd after
 pub meaning : (d : Decoder) (fed : List ℕ) (given : List Frame) → IsAfter d fed given → ((rest : List ℕ) × IsRead fed given rest) ⊎ ((fault : WireFault) × FailsAfter fed given fault)
 meaning d fed given after = meaning_at d.failure d fed given after
 
-pub one_given : BytesLaws → (d e : Decoder) (fed : List ℕ) (given given' : List Frame) → IsAfter d fed given → IsAfter e fed given' → given ≡ given'
+pub one_given : SymbolLaws → (d e : Decoder) (fed : List ℕ) (given given' : List Frame) → IsAfter d fed given → IsAfter e fed given' → given ≡ given'
 one_given laws d e fed given given' d-is e-is =
     alike (meaning d fed given d-is) (meaning e fed given' e-is)
   where

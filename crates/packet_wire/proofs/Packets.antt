@@ -3,19 +3,16 @@ use Rattle.std.proofs.Common.{◌≡◌, ℕ, ◌+◌, ◌*◌, ◌≤◌, List,
 use Rattle.std.specs.List.{flat_map}
 use Rattle.std.proofs.lemmas.List.{length-append}
 use Rattle.linear_spec.specs.declared.packet.Packet.{Packet}
+use Rattle.linear_spec.specs.SymbolLaws.{SymbolLaws}
 use Rattle.linear_spec.specs.Symbols.{be_bytes_of}
 use Rattle.generation.specs.Shape.{Dimensions, symbols_per_block}
 use Rattle.packet_wire.specs.Frame.{frame, head}
 use Rattle.packet_wire.specs.Stream.{IsPacket, packet_body, packet_frame}
 
--- the law on lengths, which the functions bring
-abbrev pub TwoBytesEach : Type 0
-TwoBytesEach = (symbols : List ℕ) → length (be_bytes_of symbols) ≡ 2 * length symbols
-
-pub length-packet_body : TwoBytesEach → (shape : Dimensions) (packet : Packet) → IsPacket shape packet → length (packet_body packet) ≡ 2 + 2 * shape.k + 2 * symbols_per_block shape
+pub length-packet_body : SymbolLaws → (shape : Dimensions) (packet : Packet) → IsPacket shape packet → length (packet_body packet) ≡ 2 + 2 * shape.k + 2 * symbols_per_block shape
 unfolding packet_body
-length-packet_body two shape packet is =
-    omega (arith, length-append (be_bytes_of packet.coeffs) (be_bytes_of packet.payload), two packet.coeffs, two packet.payload, is.fits.coeffs.count, is.fits.payload.count)
+length-packet_body laws shape packet is =
+    omega (arith, length-append (be_bytes_of packet.coeffs) (be_bytes_of packet.payload), laws.length packet.coeffs, laws.length packet.payload, is.fits.coeffs.count, is.fits.payload.count)
 
 -- ---- a frame for each packet
 

@@ -2,6 +2,7 @@
 use Rattle.std.proofs.Common.{◌≡◌, ◌⊎◌, ℕ, ◌+◌, ◌<◌, ◌≤◌, ◌^◌, true, false, List, [], ◌∷◌, ◌++◌, length, Some, None, refl, ap, sym, subst, ◌∙◌, arith, append_assoc, inl, inr, leb}
 use Rattle.std.proofs.lemmas.Bool.Decides.{leb_tells}
 use Rattle.std.proofs.lemmas.List.{length-append}
+use Rattle.linear_spec.specs.SymbolLaws.{SymbolLaws}
 use Rattle.linear_spec.specs.Symbols.{be_bytes_of, symbols_of}
 use Rattle.generation.specs.declared.ticket.Ticket.{Ticket}
 use Rattle.generation.specs.Shape.{Dimensions}
@@ -19,17 +20,9 @@ use Rattle.packet_wire.proofs.Bodies.{length-manifest_body, manifest_body_unique
 use Rattle.packet_wire.proofs.Frames.{frame_unique, fronts_of_one_length}
 use Rattle.packet_wire.proofs.Fronts.{number32_of_front}
 use Rattle.packet_wire.proofs.Judging.{none}
-use Rattle.packet_wire.proofs.OneReading.{ReadBack, packet_body_unique}
-use Rattle.packet_wire.proofs.Packets.{TwoBytesEach, length-packet_body}
+use Rattle.packet_wire.proofs.OneReading.{packet_body_unique}
+use Rattle.packet_wire.proofs.Packets.{length-packet_body}
 use Rattle.packet_wire.proofs.Spellings.{HasShape, len_read, length-ticket_body, short_ticket, spelling_is_clean}
-
--- the laws on the bytes of symbols, which the functions bring
-pub record BytesLaws : Type 0 where
-  pub two : TwoBytesEach
-  pub read_back : ReadBack
-
-pub bytes_laws : TwoBytesEach → ReadBack → BytesLaws
-bytes_laws two read_back = record { two = two; read_back = read_back }
 
 -- ---- a frame as its kind and its body
 
@@ -56,32 +49,32 @@ unfolding frame head
 length-frame kind body = omega arith
 
 -- a body is short enough for the head to tell its length
-short_body : TwoBytesEach → (phase : Phase) (f : Frame) → HasShape phase → MayFollow phase f → length (body_of f) < 2 ^ 32
-short_body two BeforeManifest (frames.Manifest m) has is = omega (arith, length-manifest_body m is)
-short_body two BeforeManifest (frames.Ticket t) has is = absurd is
-short_body two BeforeManifest (frames.Packet p) has is = absurd is
-short_body two BeforeManifest frames.End has is = absurd is
-short_body two (BeforeTicket shape) (frames.Manifest m) has is = absurd is
-short_body two (BeforeTicket shape) (frames.Ticket t) has is = omega (arith, length-ticket_body two shape t is, short_ticket shape t.checks has is.checks)
-short_body two (BeforeTicket shape) (frames.Packet p) has is = absurd is
-short_body two (BeforeTicket shape) frames.End has is = absurd is
-short_body two (BeforeEnd shape) (frames.Manifest m) has is = absurd is
-short_body two (BeforeEnd shape) (frames.Ticket t) has is = absurd is
-short_body two (BeforeEnd shape) (frames.Packet p) has is = let k = has.k in let block = has.block in omega (arith, length-packet_body two shape p is)
-short_body two (BeforeEnd shape) frames.End has is = omega arith
-short_body two Ended (frames.Manifest m) has is = absurd is
-short_body two Ended (frames.Ticket t) has is = absurd is
-short_body two Ended (frames.Packet p) has is = absurd is
-short_body two Ended frames.End has is = absurd is
+short_body : SymbolLaws → (phase : Phase) (f : Frame) → HasShape phase → MayFollow phase f → length (body_of f) < 2 ^ 32
+short_body laws BeforeManifest (frames.Manifest m) has is = omega (arith, length-manifest_body m is)
+short_body laws BeforeManifest (frames.Ticket t) has is = absurd is
+short_body laws BeforeManifest (frames.Packet p) has is = absurd is
+short_body laws BeforeManifest frames.End has is = absurd is
+short_body laws (BeforeTicket shape) (frames.Manifest m) has is = absurd is
+short_body laws (BeforeTicket shape) (frames.Ticket t) has is = omega (arith, length-ticket_body laws shape t is, short_ticket shape t.checks has is.checks)
+short_body laws (BeforeTicket shape) (frames.Packet p) has is = absurd is
+short_body laws (BeforeTicket shape) frames.End has is = absurd is
+short_body laws (BeforeEnd shape) (frames.Manifest m) has is = absurd is
+short_body laws (BeforeEnd shape) (frames.Ticket t) has is = absurd is
+short_body laws (BeforeEnd shape) (frames.Packet p) has is = let k = has.k in let block = has.block in omega (arith, length-packet_body laws shape p is)
+short_body laws (BeforeEnd shape) frames.End has is = omega arith
+short_body laws Ended (frames.Manifest m) has is = absurd is
+short_body laws Ended (frames.Ticket t) has is = absurd is
+short_body laws Ended (frames.Packet p) has is = absurd is
+short_body laws Ended frames.End has is = absurd is
 
 -- what the head of a frame tells, whatever follows the frame
 pub record IsMeasured (f : Frame) (later : List ℕ) : Type 0 where
   pub long : 10 ≤ length (frame_spelling f)
   pub told : length (frame_spelling f) ≡ 10 + body_len_in (frame_spelling f ++ later)
 
-pub measured : TwoBytesEach → (phase : Phase) (f : Frame) (later : List ℕ) → HasShape phase → MayFollow phase f → IsMeasured f later
-measured two phase f later has is =
-    let short = short_body two phase f has is in
+pub measured : SymbolLaws → (phase : Phase) (f : Frame) (later : List ℕ) → HasShape phase → MayFollow phase f → IsMeasured f later
+measured laws phase f later has is =
+    let short = short_body laws phase f has is in
     let len : length (frame_spelling f) ≡ 10 + length (body_of f) = ap length (spelled_by_body f) ∙ length-frame (kind_of f) (body_of f) in
     let told : body_len_in (frame_spelling f) ≡ length (body_of f) = ap body_len_in (spelled_by_body f) ∙ len_read (kind_of f) (body_of f) short in
     let front = number32_of_front (frame_spelling f) later 6 (omega arith) in
@@ -89,7 +82,7 @@ measured two phase f later has is =
 
 -- ---- a frame at the front is known by its bytes
 
-ticket_body_unique : BytesLaws → (shape : Dimensions) (t u : Ticket) → IsTicket shape t → IsTicket shape u → ticket_body t ≡ ticket_body u → t ≡ u
+ticket_body_unique : SymbolLaws → (shape : Dimensions) (t u : Ticket) → IsTicket shape t → IsTicket shape u → ticket_body t ≡ ticket_body u → t ≡ u
 unfolding ticket_body
 ticket_body_unique laws shape t u t-is u-is same =
     let parts = fronts_of_one_length t.key u.key (t.checks ∷ be_bytes_of t.sums) (u.checks ∷ be_bytes_of u.sums) (t-is.key_length ∙ sym u-is.key_length) same in
@@ -97,10 +90,10 @@ ticket_body_unique laws shape t u t-is u-is same =
     let after : t.checks ∷ be_bytes_of t.sums ≡ u.checks ∷ be_bytes_of u.sums = parts.1 in
     let checks : t.checks ≡ u.checks = cc in
     let bytes : be_bytes_of t.sums ≡ be_bytes_of u.sums = cc in
-    let sums : t.sums ≡ u.sums = sym (laws.read_back t.sums t-is.sums.symbols) ∙ ap symbols_of bytes ∙ laws.read_back u.sums u-is.sums.symbols in
+    let sums : t.sums ≡ u.sums = sym (laws.symbols t.sums t-is.sums.symbols) ∙ ap symbols_of bytes ∙ laws.symbols u.sums u-is.sums.symbols in
     rw (keys, checks, sums) refl
 
-same_of_bodies : BytesLaws → (phase : Phase) (f g : Frame) → HasShape phase → MayFollow phase f → MayFollow phase g → kind_of f ≡ kind_of g → body_of f ≡ body_of g → f ≡ g
+same_of_bodies : SymbolLaws → (phase : Phase) (f g : Frame) → HasShape phase → MayFollow phase f → MayFollow phase g → kind_of f ≡ kind_of g → body_of f ≡ body_of g → f ≡ g
 same_of_bodies laws BeforeManifest (frames.Manifest m) (frames.Manifest n) has f-is g-is kinds bodies =
     ap frames.Manifest (manifest_body_unique m.shape.len m.shape.k m.shape.block m.digest n (omega (arith, f-is.shape.len)) (omega (arith, f-is.shape.k)) (omega (arith, f-is.shape.block)) g-is bodies)
 same_of_bodies laws BeforeManifest (frames.Manifest m) (frames.Ticket t) has f-is g-is kinds bodies = absurd g-is
@@ -118,7 +111,7 @@ same_of_bodies laws (BeforeTicket shape) (frames.Manifest m) g has f-is g-is kin
 same_of_bodies laws (BeforeTicket shape) (frames.Packet p) g has f-is g-is kinds bodies = absurd f-is
 same_of_bodies laws (BeforeTicket shape) frames.End g has f-is g-is kinds bodies = absurd f-is
 same_of_bodies laws (BeforeEnd shape) (frames.Packet p) (frames.Packet q) has f-is g-is kinds bodies =
-    ap frames.Packet (packet_body_unique laws.read_back laws.two shape p q (omega (arith, has.generations)) f-is g-is bodies)
+    ap frames.Packet (packet_body_unique laws shape p q (omega (arith, has.generations)) f-is g-is bodies)
 same_of_bodies laws (BeforeEnd shape) (frames.Packet p) frames.End has f-is g-is kinds bodies = absurd (omega (arith, kinds))
 same_of_bodies laws (BeforeEnd shape) (frames.Packet p) (frames.Manifest m) has f-is g-is kinds bodies = absurd g-is
 same_of_bodies laws (BeforeEnd shape) (frames.Packet p) (frames.Ticket t) has f-is g-is kinds bodies = absurd g-is
@@ -133,10 +126,10 @@ same_of_bodies laws Ended (frames.Ticket t) g has f-is g-is kinds bodies = absur
 same_of_bodies laws Ended (frames.Packet p) g has f-is g-is kinds bodies = absurd f-is
 same_of_bodies laws Ended frames.End g has f-is g-is kinds bodies = absurd f-is
 
-pub same_frame : BytesLaws → (phase : Phase) (f g : Frame) (x y : List ℕ) → HasShape phase → MayFollow phase f → MayFollow phase g → frame_spelling f ++ x ≡ frame_spelling g ++ y → (f ≡ g) × (x ≡ y)
+pub same_frame : SymbolLaws → (phase : Phase) (f g : Frame) (x y : List ℕ) → HasShape phase → MayFollow phase f → MayFollow phase g → frame_spelling f ++ x ≡ frame_spelling g ++ y → (f ≡ g) × (x ≡ y)
 same_frame laws phase f g x y has f-is g-is same =
-    let f-short = short_body laws.two phase f has f-is in
-    let g-short = short_body laws.two phase g has g-is in
+    let f-short = short_body laws phase f has f-is in
+    let g-short = short_body laws phase g has g-is in
     let framed = ap (λ (s : List ℕ). s ++ x) (sym (spelled_by_body f)) ∙ same ∙ ap (λ (s : List ℕ). s ++ y) (spelled_by_body g) in
     let one = frame_unique (kind_of f) (kind_of g) (body_of f) (body_of g) x y f-short g-short framed in
     (same_of_bodies laws phase f g has f-is g-is one.kinds one.bodies, one.rests)
@@ -171,7 +164,7 @@ shape_past phase (f ∷ fs) has in-order = shape_past (phase_after phase f) fs (
 abbrev pub NoFrameAt : Phase → List ℕ → Type 0
 NoFrameAt phase bytes = (f : Frame) (later : List ℕ) → MayFollow phase f → bytes ≡ frame_spelling f ++ later → ⊥
 
-pub one_way : BytesLaws → (phase : Phase) (fs gs : List Frame) (x y : List ℕ) → HasShape phase → AreInOrder phase fs → AreInOrder phase gs → NoFrameAt (phase_past phase fs) x → NoFrameAt (phase_past phase gs) y → frames_spelling fs ++ x ≡ frames_spelling gs ++ y → (fs ≡ gs) × (x ≡ y)
+pub one_way : SymbolLaws → (phase : Phase) (fs gs : List Frame) (x y : List ℕ) → HasShape phase → AreInOrder phase fs → AreInOrder phase gs → NoFrameAt (phase_past phase fs) x → NoFrameAt (phase_past phase gs) y → frames_spelling fs ++ x ≡ frames_spelling gs ++ y → (fs ≡ gs) × (x ≡ y)
 one_way laws phase [] [] x y has fs-are gs-are no-x no-y same = (refl, same)
 one_way laws phase [] (g ∷ gs) x y has fs-are gs-are no-x no-y same =
     absurd (no-x g (frames_spelling gs ++ y) gs-are.0 (same ∙ append_assoc (frame_spelling g) (frames_spelling gs) y))
@@ -188,9 +181,9 @@ one_way laws phase (f ∷ fs) (g ∷ gs) x y has fs-are gs-are no-x no-y same =
     (cc, rest.1)
 
 -- a part of a frame is none
-pub no_frame_in_part : TwoBytesEach → (phase : Phase) (rest : List ℕ) → HasShape phase → IsPartOfFrame rest → NoFrameAt phase rest
-no_frame_in_part two phase rest has part f later is spelled =
-    let m = measured two phase f later has is in
+pub no_frame_in_part : SymbolLaws → (phase : Phase) (rest : List ℕ) → HasShape phase → IsPartOfFrame rest → NoFrameAt phase rest
+no_frame_in_part laws phase rest has part f later is spelled =
+    let m = measured laws phase f later has is in
     let len : length rest ≡ length (frame_spelling f) + length later = ap length spelled ∙ length-append (frame_spelling f) later in
     let told : body_len_in rest ≡ body_len_in (frame_spelling f ++ later) = ap body_len_in spelled in
     let short = part (omega (arith, m.long)) in
@@ -208,8 +201,8 @@ longer_front (c ∷ a) x (d ∷ b) y same short =
     (rest.0, cc)
 
 -- and not all of one
-part_is_shorter : TwoBytesEach → (rest more : List ℕ) (f : Frame) (after : List ℕ) → IsMeasured f after → IsPartOfFrame rest → rest ++ more ≡ frame_spelling f ++ after → length rest < length (frame_spelling f)
-part_is_shorter two rest more f after m part same =
+part_is_shorter : SymbolLaws → (rest more : List ℕ) (f : Frame) (after : List ℕ) → IsMeasured f after → IsPartOfFrame rest → rest ++ more ≡ frame_spelling f ++ after → length rest < length (frame_spelling f)
+part_is_shorter laws rest more f after m part same =
     let told : body_len_in (rest ++ more) ≡ body_len_in (frame_spelling f ++ after) = ap body_len_in same in
     let long = m.long in
     let len = m.told in
@@ -223,22 +216,22 @@ part_is_shorter two rest more f after m part same =
     decided (inr few) told long len = let short = few.1 in omega arith
 
 -- nor is there one where a judgement fails
-pub no_frame_in_failing : TwoBytesEach → (phase : Phase) (rest : List ℕ) (byte : ℕ) (later : List ℕ) (fault : WireFault) → HasShape phase → IsPartOfFrame rest → fault_at phase (rest ++ byte ∷ []) ≡ Some fault → NoFrameAt phase (rest ++ byte ∷ later)
-no_frame_in_failing two phase rest byte later fault has part fails f after is spelled =
-    let m = measured two phase f after has is in
-    let short = part_is_shorter two rest (byte ∷ later) f after m part spelled in
+pub no_frame_in_failing : SymbolLaws → (phase : Phase) (rest : List ℕ) (byte : ℕ) (later : List ℕ) (fault : WireFault) → HasShape phase → IsPartOfFrame rest → fault_at phase (rest ++ byte ∷ []) ≡ Some fault → NoFrameAt phase (rest ++ byte ∷ later)
+no_frame_in_failing laws phase rest byte later fault has part fails f after is spelled =
+    let m = measured laws phase f after has is in
+    let short = part_is_shorter laws rest (byte ∷ later) f after m part spelled in
     let joined : (rest ++ byte ∷ []) ++ later ≡ frame_spelling f ++ after = append_assoc rest (byte ∷ []) later ∙ spelled in
     let front = longer_front (rest ++ byte ∷ []) later (frame_spelling f) after joined (omega (arith, length-append rest (byte ∷ []))) in
-    let passes = none (fault_at phase (rest ++ byte ∷ [])) (spelling_is_clean two phase f has is (rest ++ byte ∷ []) front.0 front.1) in
+    let passes = none (fault_at phase (rest ++ byte ∷ [])) (spelling_is_clean laws phase f has is (rest ++ byte ∷ []) front.0 front.1) in
     absurd (let wrong : None ≡ Some fault = sym passes ∙ fails in cc)
 
 -- ---- one reading, one first fault, and not both
 
-pub one_reading : BytesLaws → (phase : Phase) (bytes : List ℕ) (fs gs : List Frame) (x y : List ℕ) → HasShape phase → IsReadFrom phase bytes fs x → IsReadFrom phase bytes gs y → (fs ≡ gs) × (x ≡ y)
+pub one_reading : SymbolLaws → (phase : Phase) (bytes : List ℕ) (fs gs : List Frame) (x y : List ℕ) → HasShape phase → IsReadFrom phase bytes fs x → IsReadFrom phase bytes gs y → (fs ≡ gs) × (x ≡ y)
 one_reading laws phase bytes fs gs x y has r s =
     one_way laws phase fs gs x y has r.in_order s.in_order
-    (no_frame_in_part laws.two (phase_past phase fs) x (shape_past phase fs has r.in_order) r.part)
-    (no_frame_in_part laws.two (phase_past phase gs) y (shape_past phase gs has s.in_order) s.part)
+    (no_frame_in_part laws (phase_past phase fs) x (shape_past phase fs has r.in_order) r.part)
+    (no_frame_in_part laws (phase_past phase gs) y (shape_past phase gs has s.in_order) s.part)
     (sym r.spelled ∙ s.spelled)
 
 -- bytes that fail, as frames and what is no frame
@@ -246,14 +239,14 @@ pub failing_spelled : (phase : Phase) (bytes : List ℕ) (fs : List Frame) (faul
 failing_spelled phase bytes fs fault r =
     r.bytes_are ∙ ap (λ (s : List ℕ). s ++ r.byte ∷ r.later) r.read.spelled ∙ append_assoc (frames_spelling fs) r.rest (r.byte ∷ r.later)
 
-pub failing_no_frame : BytesLaws → (phase : Phase) (bytes : List ℕ) (fs : List Frame) (fault : WireFault) → HasShape phase → (r : FailsFrom phase bytes fs fault) → NoFrameAt (phase_past phase fs) (r.rest ++ r.byte ∷ r.later)
+pub failing_no_frame : SymbolLaws → (phase : Phase) (bytes : List ℕ) (fs : List Frame) (fault : WireFault) → HasShape phase → (r : FailsFrom phase bytes fs fault) → NoFrameAt (phase_past phase fs) (r.rest ++ r.byte ∷ r.later)
 failing_no_frame laws phase bytes fs fault has r =
-    no_frame_in_failing laws.two (phase_past phase fs) r.rest r.byte r.later fault (shape_past phase fs has r.read.in_order) r.read.part r.fails
+    no_frame_in_failing laws (phase_past phase fs) r.rest r.byte r.later fault (shape_past phase fs has r.read.in_order) r.read.part r.fails
 
-pub not_both : BytesLaws → (phase : Phase) (bytes : List ℕ) (fs gs : List Frame) (x : List ℕ) (fault : WireFault) → HasShape phase → IsReadFrom phase bytes fs x → FailsFrom phase bytes gs fault → ⊥
+pub not_both : SymbolLaws → (phase : Phase) (bytes : List ℕ) (fs gs : List Frame) (x : List ℕ) (fault : WireFault) → HasShape phase → IsReadFrom phase bytes fs x → FailsFrom phase bytes gs fault → ⊥
 not_both laws phase bytes fs gs x fault has r s =
     let one = one_way laws phase fs gs x (s.rest ++ s.byte ∷ s.later) has r.in_order s.read.in_order
-    (no_frame_in_part laws.two (phase_past phase fs) x (shape_past phase fs has r.in_order) r.part)
+    (no_frame_in_part laws (phase_past phase fs) x (shape_past phase fs has r.in_order) r.part)
     (failing_no_frame laws phase bytes gs fault has s)
     (sym r.spelled ∙ failing_spelled phase bytes gs fault s) in
     let clean = none (fault_at (phase_past phase fs) (s.rest ++ s.byte ∷ [])) (r.nothing_fails (s.rest ++ s.byte ∷ []) s.later (one.1 ∙ sym (append_assoc s.rest (s.byte ∷ []) s.later))) in
@@ -284,7 +277,7 @@ one_fault phase x b l y c k f g same x-clean y-clean x-fails y-fails =
     equal : (m n : ℕ) → (m < n → ⊥) → (n < m → ⊥) → m ≡ n
     equal m n not-less not-more = omega (arith, not-less, not-more)
 
-pub one_failure : BytesLaws → (phase : Phase) (bytes : List ℕ) (fs gs : List Frame) (f g : WireFault) → HasShape phase → FailsFrom phase bytes fs f → FailsFrom phase bytes gs g → (fs ≡ gs) × (f ≡ g)
+pub one_failure : SymbolLaws → (phase : Phase) (bytes : List ℕ) (fs gs : List Frame) (f g : WireFault) → HasShape phase → FailsFrom phase bytes fs f → FailsFrom phase bytes gs g → (fs ≡ gs) × (f ≡ g)
 one_failure laws phase bytes fs gs f g has r s =
     let one = one_way laws phase fs gs (r.rest ++ r.byte ∷ r.later) (s.rest ++ s.byte ∷ s.later) has r.read.in_order s.read.in_order
     (failing_no_frame laws phase bytes fs f has r) (failing_no_frame laws phase bytes gs g has s)

@@ -6,6 +6,7 @@ use Rattle.std.proofs.lemmas.Bool.{eq-eqb, le-leb, lt-ltb, eqb-true}
 use Rattle.std.proofs.lemmas.List.{get_or-append-add, length-append}
 use Rattle.std.proofs.Math.Seq.{get_or-append_seam}
 use Rattle.std.specs.Cmp.Derive.{both_true}
+use Rattle.linear_spec.specs.SymbolLaws.{SymbolLaws}
 use Rattle.linear_spec.specs.Symbols.{be_bytes_of}
 use Rattle.linear_spec.specs.declared.packet.Packet.{Packet}
 use Rattle.generation.specs.declared.ticket.Ticket.{Ticket}
@@ -23,7 +24,7 @@ use Rattle.packet_wire.specs.Judgements.{Judgement, body_judgements, head_judgem
 use Rattle.packet_wire.proofs.Bodies.{length-manifest_body}
 use Rattle.packet_wire.proofs.Fronts.{Passed, clean_of_passed}
 use Rattle.packet_wire.proofs.Numbers.{read16, read32, read64}
-use Rattle.packet_wire.proofs.Packets.{TwoBytesEach, length-packet_body}
+use Rattle.packet_wire.proofs.Packets.{length-packet_body}
 
 -- ---- what is read in a frame
 
@@ -129,10 +130,10 @@ any_of_nine test t few here =
     any_more test 8 t [] here (λ not-8.
     absurd (omega arith))))))))))
 
-pub length-ticket_body : TwoBytesEach → (shape : Dimensions) (t : Ticket) → IsTicket shape t → length (ticket_body t) ≡ ticket_len shape t.checks
+pub length-ticket_body : SymbolLaws → (shape : Dimensions) (t : Ticket) → IsTicket shape t → length (ticket_body t) ≡ ticket_len shape t.checks
 unfolding ticket_body
-length-ticket_body two shape t is =
-    omega (arith, length-append t.key (t.checks ∷ be_bytes_of t.sums), two t.sums, is.key_length, is.sums.count)
+length-ticket_body laws shape t is =
+    omega (arith, length-append t.key (t.checks ∷ be_bytes_of t.sums), laws.length t.sums, is.key_length, is.sums.count)
 
 -- a ticket of the largest shape is short enough for the head to tell its length
 pub short_ticket : (shape : Dimensions) (checks : ℕ) → IsShape shape → checks ≤ 8 → ticket_len shape checks < 2 ^ 32
@@ -148,10 +149,10 @@ checks_read : (t : Ticket) → length t.key ≡ 32 → get_or (ticket_frame t) 4
 unfolding ticket_body
 checks_read t len = cell_of_body 2 (ticket_body t) 32 ∙ ap (λ (n : ℕ). get_or (ticket_body t) n 0) (sym len) ∙ get_or-append_seam t.key t.checks (be_bytes_of t.sums) 0
 
-ticket_clean : TwoBytesEach → (shape : Dimensions) (t : Ticket) → IsShape shape → IsTicket shape t → NothingFails (BeforeTicket shape) (ticket_frame t)
+ticket_clean : SymbolLaws → (shape : Dimensions) (t : Ticket) → IsShape shape → IsTicket shape t → NothingFails (BeforeTicket shape) (ticket_frame t)
 unfolding judgements body_judgements
-ticket_clean two shape t limits is =
-    let len = length-ticket_body two shape t is in
+ticket_clean laws shape t limits is =
+    let len = length-ticket_body laws shape t is in
     let short : length (ticket_body t) < 2 ^ 32 = omega (arith, short_ticket shape t.checks limits is.checks) in
     let count = length (ticket_frame t) in
     let agrees : (length (ticket_body t) == ticket_len shape t.checks) ≡ true = eq-eqb _ _ len in
@@ -173,10 +174,10 @@ generation_read : (p : Packet) → p.generation < 2 ^ 16 → number16_at (packet
 unfolding frame head packet_body
 generation_read p fits = read16 p.generation (be_bytes_of p.coeffs ++ be_bytes_of p.payload) fits
 
-packet_clean : TwoBytesEach → (shape : Dimensions) (p : Packet) → IsShape shape → IsPacket shape p → NothingFails (BeforeEnd shape) (packet_frame p)
+packet_clean : SymbolLaws → (shape : Dimensions) (p : Packet) → IsShape shape → IsPacket shape p → NothingFails (BeforeEnd shape) (packet_frame p)
 unfolding judgements body_judgements
-packet_clean two shape p limits is =
-    let len = length-packet_body two shape p is in
+packet_clean laws shape p limits is =
+    let len = length-packet_body laws shape p is in
     let k-few = limits.k in
     let block-few = limits.block in
     let short : length (packet_body p) < 2 ^ 32 = omega arith in
@@ -205,20 +206,20 @@ HasShape (BeforeTicket shape) = IsShape shape
 HasShape (BeforeEnd shape) = IsShape shape
 HasShape Ended = Unit {0}
 
-pub spelling_is_clean : TwoBytesEach → (phase : Phase) (f : Frame) → HasShape phase → MayFollow phase f → NothingFails phase (frame_spelling f)
-spelling_is_clean two BeforeManifest (frames.Manifest m) has is = manifest_clean m is
-spelling_is_clean two BeforeManifest (frames.Ticket t) has is = absurd is
-spelling_is_clean two BeforeManifest (frames.Packet p) has is = absurd is
-spelling_is_clean two BeforeManifest frames.End has is = absurd is
-spelling_is_clean two (BeforeTicket shape) (frames.Manifest m) has is = absurd is
-spelling_is_clean two (BeforeTicket shape) (frames.Ticket t) has is = ticket_clean two shape t has is
-spelling_is_clean two (BeforeTicket shape) (frames.Packet p) has is = absurd is
-spelling_is_clean two (BeforeTicket shape) frames.End has is = absurd is
-spelling_is_clean two (BeforeEnd shape) (frames.Manifest m) has is = absurd is
-spelling_is_clean two (BeforeEnd shape) (frames.Ticket t) has is = absurd is
-spelling_is_clean two (BeforeEnd shape) (frames.Packet p) has is = packet_clean two shape p has is
-spelling_is_clean two (BeforeEnd shape) frames.End has is = end_clean shape
-spelling_is_clean two Ended f has is = absurd (ended f is)
+pub spelling_is_clean : SymbolLaws → (phase : Phase) (f : Frame) → HasShape phase → MayFollow phase f → NothingFails phase (frame_spelling f)
+spelling_is_clean laws BeforeManifest (frames.Manifest m) has is = manifest_clean m is
+spelling_is_clean laws BeforeManifest (frames.Ticket t) has is = absurd is
+spelling_is_clean laws BeforeManifest (frames.Packet p) has is = absurd is
+spelling_is_clean laws BeforeManifest frames.End has is = absurd is
+spelling_is_clean laws (BeforeTicket shape) (frames.Manifest m) has is = absurd is
+spelling_is_clean laws (BeforeTicket shape) (frames.Ticket t) has is = ticket_clean laws shape t has is
+spelling_is_clean laws (BeforeTicket shape) (frames.Packet p) has is = absurd is
+spelling_is_clean laws (BeforeTicket shape) frames.End has is = absurd is
+spelling_is_clean laws (BeforeEnd shape) (frames.Manifest m) has is = absurd is
+spelling_is_clean laws (BeforeEnd shape) (frames.Ticket t) has is = absurd is
+spelling_is_clean laws (BeforeEnd shape) (frames.Packet p) has is = packet_clean laws shape p has is
+spelling_is_clean laws (BeforeEnd shape) frames.End has is = end_clean shape
+spelling_is_clean laws Ended f has is = absurd (ended f is)
   where
     ended : (f : Frame) → MayFollow Ended f → ⊥
     ended (frames.Manifest m) is = is

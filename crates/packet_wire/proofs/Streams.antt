@@ -4,6 +4,7 @@ use Rattle.std.specs.List.{All, flat_map}
 use Rattle.std.proofs.lemmas.Bool.Decides.{leb_tells}
 use Rattle.std.proofs.lemmas.List.{append-nil}
 use Rattle.std.proofs.lemmas.List.Elements.{All-append, All-cons, All-head, All-nil, All-tail}
+use Rattle.linear_spec.specs.SymbolLaws.{SymbolLaws}
 use Rattle.linear_spec.specs.Symbols.{AreBytes}
 use Rattle.linear_spec.specs.declared.packet.Packet.{Packet}
 use Rattle.generation.specs.Shape.{Dimensions}
@@ -21,9 +22,9 @@ use Rattle.packet_wire.specs.Judgements.{body_len_in, fault_at, judgements}
 use Rattle.packet_wire.specs.Making.{frame_in}
 use Rattle.packet_wire.specs.Decoding.{AreStreamFrames}
 use Rattle.packet_wire.proofs.Judging.{none}
-use Rattle.packet_wire.proofs.Readings.{BytesLaws, not_both, one_failure, one_reading}
+use Rattle.packet_wire.proofs.Readings.{not_both, one_failure, one_reading}
 use Rattle.packet_wire.proofs.Steps.{fails_next, fails_on, gives_next, holds_next, nothing_fails_in_nothing, nothing_is_part, whole_next}
-use Rattle.packet_wire.proofs.Wholes.{SymbolLaws, made}
+use Rattle.packet_wire.proofs.Wholes.{made}
 
 -- ---- the frames of a stream stand in order, and are its spelling
 
@@ -145,12 +146,12 @@ same_contents c d same =
     let packets = same_packets c.packets d.packets tails in
     rw (manifests, tickets, packets) refl
 
-pub one_contents : BytesLaws → (bytes : List ℕ) (c d : Contents) → IsStream bytes c → IsStream bytes d → c ≡ d
+pub one_contents : SymbolLaws → (bytes : List ℕ) (c d : Contents) → IsStream bytes c → IsStream bytes d → c ≡ d
 one_contents laws bytes c d c-is d-is =
     let one = one_reading laws BeforeManifest bytes (frames_of c) (frames_of d) [] [] tt (stream_is_read bytes c c-is) (stream_is_read bytes d d-is) in
     same_contents c d one.0
 
-pub stream_or_fault : BytesLaws → (bytes : List ℕ) (c : Contents) (fault : WireFault) → IsStream bytes c → IsFirstFault bytes fault → ⊥
+pub stream_or_fault : SymbolLaws → (bytes : List ℕ) (c : Contents) (fault : WireFault) → IsStream bytes c → IsFirstFault bytes fault → ⊥
 stream_or_fault laws bytes c fault is (inl failing) =
     not_both laws BeforeManifest bytes (frames_of c) failing.0 [] failing.1.0 tt (stream_is_read bytes c is) failing.1.1
 stream_or_fault laws bytes c fault is (inr short) =
@@ -161,12 +162,12 @@ moved_same : (fs gs : List Frame) (f g x y : WireFault) → fs ≡ gs → f ≡ 
 moved_same fs gs f g x y same-frames same-fault x-is y-is =
     x-is ∙ ap (λ (hs : List Frame). moved_by (length (frames_spelling hs)) f) same-frames ∙ ap (λ (h : WireFault). moved_by (length (frames_spelling gs)) h) same-fault ∙ sym y-is
 
-pub one_failing : BytesLaws → (bytes : List ℕ) (fs gs : List Frame) (x y : WireFault) → FailsAfter bytes fs x → FailsAfter bytes gs y → (fs ≡ gs) × (x ≡ y)
+pub one_failing : SymbolLaws → (bytes : List ℕ) (fs gs : List Frame) (x y : WireFault) → FailsAfter bytes fs x → FailsAfter bytes gs y → (fs ≡ gs) × (x ≡ y)
 one_failing laws bytes fs gs x y x-is y-is =
     let one = one_failure laws BeforeManifest bytes fs gs x-is.0 y-is.0 tt x-is.1 y-is.1 in
     (one.0, moved_same fs gs x-is.0 y-is.0 x y one.0 one.1 x-is.2 y-is.2)
 
-pub one_first_fault : BytesLaws → (bytes : List ℕ) (x y : WireFault) → IsFirstFault bytes x → IsFirstFault bytes y → x ≡ y
+pub one_first_fault : SymbolLaws → (bytes : List ℕ) (x y : WireFault) → IsFirstFault bytes x → IsFirstFault bytes y → x ≡ y
 one_first_fault laws bytes x y (inl x-is) (inl y-is) = let one = one_failing laws bytes x-is.0 y-is.0 x y x-is.1 y-is.1 in one.1
 one_first_fault laws bytes x y (inl x-is) (inr y-is) = absurd (not_both laws BeforeManifest bytes y-is.0 x-is.0 y-is.1 x-is.1.0 tt y-is.2 x-is.1.1)
 one_first_fault laws bytes x y (inr x-is) (inl y-is) = absurd (not_both laws BeforeManifest bytes x-is.0 y-is.0 x-is.1 y-is.1.0 tt x-is.2 y-is.1.1)

@@ -5,6 +5,7 @@ use Rattle.std.specs.List.{list_any}
 use Rattle.std.proofs.lemmas.Bool.{eq-eqb, eqb-true, leb-true, ltb-true}
 use Rattle.std.proofs.lemmas.List.{drop_more, length-append, length-drop, length-take-le, take-append-drop, drop-drop}
 use Rattle.std.proofs.lemmas.List.Elements.{All-drop, All-take}
+use Rattle.linear_spec.specs.SymbolLaws.{SymbolLaws}
 use Rattle.linear_spec.specs.Symbols.{AreBytes, AreSymbols, IsVector, be_bytes_of, symbols_of}
 use Rattle.generation.specs.Shape.{Dimensions, IsShape, generations_of, symbols_per_block}
 use Rattle.packet_wire.specs.declared.frame.Frame.{Frame}
@@ -18,24 +19,9 @@ use Rattle.packet_wire.specs.Judgements.{Judgement, body_judgements, head_judgem
 use Rattle.packet_wire.specs.Making.{IsWholeFrame, frame_in, manifest_in, packet_in, ticket_in}
 use Rattle.packet_wire.proofs.Fronts.{Passed, passed_of_clean}
 use Rattle.packet_wire.proofs.Numbers.{spells16, spells32, spells64}
-use Rattle.packet_wire.proofs.Packets.{TwoBytesEach, length-packet_body}
+use Rattle.packet_wire.proofs.Packets.{length-packet_body}
 use Rattle.linear_spec.specs.declared.packet.Packet.{Packet}
 use Rattle.generation.specs.declared.ticket.Ticket.{Ticket}
-
--- the laws on the bytes of symbols, which the functions bring
-abbrev pub WrittenBack : Type 0
-WrittenBack = (bytes : List ℕ) → AreBytes bytes → length bytes % 2 ≡ 0 → be_bytes_of (symbols_of bytes) ≡ bytes
-
-abbrev pub MakesSymbols : Type 0
-MakesSymbols = (bytes : List ℕ) → AreBytes bytes → AreSymbols (symbols_of bytes)
-
-pub record SymbolLaws : Type 0 where
-  pub two : TwoBytesEach
-  pub back : WrittenBack
-  pub symbols : MakesSymbols
-
-pub symbol_laws : TwoBytesEach → WrittenBack → MakesSymbols → SymbolLaws
-symbol_laws two back symbols = record { two = two; back = back; symbols = symbols }
 
 both : (a b : Bool) → (a && b) ≡ true → (a ≡ true) × (b ≡ true)
 both true b is = (refl, is)
@@ -136,7 +122,7 @@ ticket_spelled : SymbolLaws → (held : List ℕ) (sums : ℕ) → AreBytes held
 unfolding ticket_body
 ticket_spelled laws held sums bytes count =
     let sums-len : length (drop 43 held) ≡ 2 * sums = omega (arith, length-drop 43 held) in
-    let sums-back = laws.back (drop 43 held) (All-drop (λ byte. byte < 2 ^ 8) 43 held bytes) (omega arith) in
+    let sums-back = laws.bytes (drop 43 held) (All-drop (λ byte. byte < 2 ^ 8) 43 held bytes) (omega arith) in
     let checks = drop_more held 42 0 (omega arith) in
     sym (take-append-drop 32 (drop 10 held))
     ∙ ap (λ (x : List ℕ). take 32 (drop 10 held) ++ x) (drop-drop 32 10 held ∙ checks ∙ ap (λ (x : List ℕ). get_or held 42 0 ∷ x) (sym sums-back))
@@ -144,10 +130,10 @@ ticket_spelled laws held sums bytes count =
 -- a list of symbols that bytes spell
 symbols_of_count : SymbolLaws → (bytes : List ℕ) (count : ℕ) → AreBytes bytes → length bytes ≡ 2 * count → IsVector count (symbols_of bytes)
 symbols_of_count laws bytes count are len =
-    let back = laws.back bytes are (omega arith) in
+    let back = laws.bytes bytes are (omega arith) in
     record {
-      count = omega (arith, laws.two (symbols_of bytes), ap length back);
-      symbols = laws.symbols bytes are;
+      count = omega (arith, laws.length (symbols_of bytes), ap length back);
+      symbols = laws.are_symbols bytes are;
     }
 
 ticket_made : SymbolLaws → (shape : Dimensions) (held : List ℕ) → AreBytes held → length held ≡ 10 + body_len_in held → HasHead (BeforeTicket shape) held → Passed (ticket_judgements shape held) (length held) → IsTicket shape (ticket_in held) × (held ≡ ticket_frame (ticket_in held))
@@ -180,8 +166,8 @@ packet_spelled laws shape held s bytes count =
     let parts-len : length parts ≡ 2 * shape.k + 2 * s = omega (arith, length-drop 12 held) in
     let coeffs-len : length (take (2 * shape.k) parts) ≡ 2 * shape.k = length-take-le (2 * shape.k) parts (omega arith) in
     let payload-len : length (drop (2 * shape.k) parts) ≡ 2 * s = omega (arith, length-drop (2 * shape.k) parts) in
-    let coeffs = laws.back (take (2 * shape.k) parts) (All-take (λ byte. byte < 2 ^ 8) (2 * shape.k) parts parts-are) (omega arith) in
-    let payload = laws.back (drop (2 * shape.k) parts) (All-drop (λ byte. byte < 2 ^ 8) (2 * shape.k) parts parts-are) (omega arith) in
+    let coeffs = laws.bytes (take (2 * shape.k) parts) (All-take (λ byte. byte < 2 ^ 8) (2 * shape.k) parts parts-are) (omega arith) in
+    let payload = laws.bytes (drop (2 * shape.k) parts) (All-drop (λ byte. byte < 2 ^ 8) (2 * shape.k) parts parts-are) (omega arith) in
     spells16 held 10 bytes (omega arith)
     ∙ ap (λ (x : List ℕ). to_be_bytes w16 (number16_at held 10) ++ x) (sym (take-append-drop (2 * shape.k) parts)
     ∙ ap (λ (x : List ℕ). x ++ drop (2 * shape.k) parts) (sym coeffs)
@@ -272,9 +258,9 @@ whole_ticket laws shape held bytes whole =
     let is = made laws (BeforeTicket shape) held bytes whole in
     omega (arith, ap length is.1, long_ticket (ticket_in held) is.0.key_length)
 
-long_packet : TwoBytesEach → (shape : Dimensions) (p : Packet) → IsPacket shape p → 12 + 2 * shape.k ≤ length (packet_frame p)
+long_packet : SymbolLaws → (shape : Dimensions) (p : Packet) → IsPacket shape p → 12 + 2 * shape.k ≤ length (packet_frame p)
 unfolding frame head
-long_packet two shape p is = omega (arith, length-packet_body two shape p is)
+long_packet laws shape p is = omega (arith, length-packet_body laws shape p is)
 
 pub whole_packet : SymbolLaws → (shape : Dimensions) (held : List ℕ) → AreBytes held → IsWholeFrame (BeforeEnd shape) held → kind_in held ≡ 3 → 12 + 2 * shape.k ≤ length held
 whole_packet laws shape held bytes whole kind =
@@ -282,7 +268,7 @@ whole_packet laws shape held bytes whole kind =
     let three = eq-eqb (kind_in held) 3 kind in
     let packet : IsMade (BeforeEnd shape) held (frames.Packet (packet_in shape held)) =
     subst (λ (b : Bool). IsMade (BeforeEnd shape) held (if b then frames.Packet (packet_in shape held) else frames.End)) three is in
-    omega (arith, ap length packet.1, long_packet laws.two shape (packet_in shape held) packet.0)
+    omega (arith, ap length packet.1, long_packet laws shape (packet_in shape held) packet.0)
 
 pub none_after_end : (held : List ℕ) → IsWholeFrame Ended held → ⊥
 unfolding judgements

@@ -1,5 +1,5 @@
 -- What an offer knows of a packet once it is reduced, and what follows by the laws of rows.
-use Rattle.std.proofs.Common.{◌≡◌, ◌≢◌, ◌⊎◌, ◌↔◌, ℕ, ◌<◌, ◌≤◌, List, [], ◌∷◌, ◌++◌, length, take, drop, get_or, replicate, sym, ap, ◌∙◌, subst, ⊎_elim, arith}
+use Rattle.std.proofs.Common.{◌≡◌, ◌≢◌, ◌⊎◌, ℕ, ◌<◌, ◌≤◌, List, [], ◌∷◌, ◌++◌, length, take, drop, get_or, replicate, sym, ap, ◌∙◌, subst, ⊎_elim, arith}
 use Rattle.std.specs.List.{All}
 use Rattle.std.proofs.Math.Seq.{take-append_seam, drop-append_seam}
 use Rattle.std.proofs.lemmas.List.{get_or-replicate, get_or_past, length-replicate}
@@ -9,6 +9,7 @@ use Rattle.gf16.specs.Sums.{scaled}
 use Rattle.linear_spec.specs.declared.packet.Packet.{Packet}
 use Rattle.linear_spec.specs.Cases.{IsFresh, IsWithin, IsConflicting}
 use Rattle.linear_spec.specs.Packet.{Fits, vector_of}
+use Rattle.linear_spec.specs.RowLaws.{DecisionLaws}
 use Rattle.linear_spec.specs.Rows.{StandsFor, StandForAll, IsRowOf, first_nonzero, pivot_of, remainder_of}
 use Rattle.plain_basis.specs.Basis.{Basis, IsSound}
 
@@ -51,33 +52,16 @@ inverse_tells field n inverse v product zeros =
     let e : ◌≡◌ {A = ℕ} 0 1 = sym (ap (λ x. product_of x inverse) none ∙ field.zero_product inverse) ∙ product in
     absurd (omega arith)
 
-abbrev pub FreshLaw : Type 0
-FreshLaw = (k s : ℕ) (packets rows : List Packet) (packet : Packet) → All (Fits k s) packets → Fits k s packet → StandForAll k s packets rows
-    → IsFresh k packets packet ↔ (take k (remainder_of rows (vector_of packet)) ≢ replicate k 0)
-
-abbrev pub WithinLaw : Type 0
-WithinLaw = (k s : ℕ) (packets rows : List Packet) (packet : Packet) → All (Fits k s) packets → Fits k s packet → StandForAll k s packets rows
-    → take k (remainder_of rows (vector_of packet)) ≡ replicate k 0
-    → IsWithin k s packets packet ↔ (drop k (remainder_of rows (vector_of packet)) ≡ replicate s 0)
-
-abbrev pub StandsLaw : Type 0
-StandsLaw = (k s : ℕ) (packets rows : List Packet) (packet row : Packet) → All (Fits k s) packets → Fits k s packet → StandForAll k s packets rows
-    → IsRowOf k rows packet row → StandsFor k s packets rows packet row
-
-abbrev pub JoinsLaw : Type 0
-JoinsLaw = (k s : ℕ) (packets rows : List Packet) (packet row : Packet) → StandForAll k s packets rows
-    → StandsFor k s packets rows packet row → StandForAll k s (packets ++ packet ∷ []) (rows ++ row ∷ [])
-
 module _ (basis : Basis) (rows : List Packet) (packet : Packet) (coeffs payload : List ℕ) (reduced : IsReduced basis rows packet coeffs payload) where
-  pub is_fresh : IsField → FreshLaw → (inverse : ℕ) → product_of (get_or coeffs (first_nonzero coeffs) 0) inverse ≡ 1 → IsFresh basis.k basis.packets packet
-  is_fresh field law inverse product =
-      (law basis.k basis.s basis.packets rows packet reduced.sound.fit reduced.fits reduced.sound.stand).1
+  pub is_fresh : IsField → DecisionLaws → (inverse : ℕ) → product_of (get_or coeffs (first_nonzero coeffs) 0) inverse ≡ 1 → IsFresh basis.k basis.packets packet
+  is_fresh field laws inverse product =
+      (laws.fresh basis.k basis.s basis.packets rows packet reduced.sound.fit reduced.fits reduced.sound.stand).1
       (subst (λ v. v ≢ replicate basis.k 0) (sym reduced.coeffs_are) (inverse_tells field basis.k inverse coeffs product))
 
-  pub sound_after : StandsLaw → JoinsLaw → (inverse : ℕ) (row : Packet) → IsSymbol inverse
+  pub sound_after : DecisionLaws → (inverse : ℕ) (row : Packet) → IsSymbol inverse
       → product_of (get_or coeffs (first_nonzero coeffs) 0) inverse ≡ 1 → row.coeffs ≡ scaled inverse coeffs → row.payload ≡ scaled inverse payload
       → IsSound basis.k basis.s (basis.packets ++ packet ∷ []) (rows ++ row ∷ [])
-  sound_after stands joins inverse row symbol product coeffs_are payload_is =
+  sound_after laws inverse row symbol product coeffs_are payload_is =
       let is_row : IsRowOf basis.k rows packet row = record {
         inverse = inverse;
         inverse_is_symbol = symbol;
@@ -88,24 +72,24 @@ module _ (basis : Basis) (rows : List Packet) (packet : Packet) (coeffs payload 
       record {
         narrow = reduced.sound.narrow;
         fit = All-push (Fits basis.k basis.s) basis.packets packet reduced.sound.fit reduced.fits;
-        stand = joins basis.k basis.s basis.packets rows packet row reduced.sound.stand
-            (stands basis.k basis.s basis.packets rows packet row reduced.sound.fit reduced.fits reduced.sound.stand is_row);
+        stand = laws.joins basis.k basis.s basis.packets rows packet row reduced.sound.stand
+            (laws.stands basis.k basis.s basis.packets rows packet row reduced.sound.fit reduced.fits reduced.sound.stand is_row);
       }
 
   -- the coefficients are all 0
   zeros : coeffs ≡ replicate (length coeffs) 0 → take basis.k (remainder_of rows (vector_of packet)) ≡ replicate basis.k 0
   zeros none = reduced.coeffs_are ∙ none ∙ ap (λ n. replicate n 0) reduced.coeffs_count
 
-  pub is_within : WithinLaw → coeffs ≡ replicate (length coeffs) 0 → payload ≡ replicate (length payload) 0 → IsWithin basis.k basis.s basis.packets packet
-  is_within law none rest =
-      (law basis.k basis.s basis.packets rows packet reduced.sound.fit reduced.fits reduced.sound.stand (zeros none)).1
+  pub is_within : DecisionLaws → coeffs ≡ replicate (length coeffs) 0 → payload ≡ replicate (length payload) 0 → IsWithin basis.k basis.s basis.packets packet
+  is_within laws none rest =
+      (laws.within basis.k basis.s basis.packets rows packet reduced.sound.fit reduced.fits reduced.sound.stand (zeros none)).1
       (reduced.payload_are ∙ rest ∙ ap (λ n. replicate n 0) reduced.payload_count)
 
-  pub is_conflicting : FreshLaw → WithinLaw → coeffs ≡ replicate (length coeffs) 0 → payload ≢ replicate (length payload) 0 → IsConflicting basis.k basis.s basis.packets packet
-  is_conflicting fresh within none rest = (
-    λ new. (fresh basis.k basis.s basis.packets rows packet reduced.sound.fit reduced.fits reduced.sound.stand).0 new (zeros none),
+  pub is_conflicting : DecisionLaws → coeffs ≡ replicate (length coeffs) 0 → payload ≢ replicate (length payload) 0 → IsConflicting basis.k basis.s basis.packets packet
+  is_conflicting laws none rest = (
+    λ new. (laws.fresh basis.k basis.s basis.packets rows packet reduced.sound.fit reduced.fits reduced.sound.stand).0 new (zeros none),
     λ follows. rest (sym reduced.payload_are
-        ∙ (within basis.k basis.s basis.packets rows packet reduced.sound.fit reduced.fits reduced.sound.stand (zeros none)).0 follows
+        ∙ (laws.within basis.k basis.s basis.packets rows packet reduced.sound.fit reduced.fits reduced.sound.stand (zeros none)).0 follows
         ∙ ap (λ n. replicate n 0) (sym reduced.payload_count)),
   )
 

@@ -11,30 +11,26 @@ use Rattle.linear_spec.specs.declared.packet.Packet.{Packet}
 use Rattle.linear_spec.specs.Symbols.{AreSymbols, IsVector}
 use Rattle.linear_spec.specs.Combination.{column_of, combination_of}
 use Rattle.linear_spec.specs.Packet.{Fits, coefficients_of, payloads_of}
+use Rattle.linear_spec.specs.SpanLaws.{CombinationLaws}
 use Rattle.recode.specs.Draws.{symbol_of_word, with_last_one, coefficients_of_words, draw_word, draw_coefficients, pollution_of}
 
 pub length-combination : (n : ℕ) (cs : List ℕ) (vs : List (List ℕ)) → length (combination_of n cs vs) ≡ n
 unfolding combination_of
 length-combination n cs vs = length-map-range_with_len (λ place. dot_of cs (column_of place vs)) 0 n
 
--- what is said of a combination of one vector more
-abbrev pub Last : Type 0
-Last = (n c : ℕ) (coefficients vector : List ℕ) (vectors : List (List ℕ)) → length coefficients ≡ length vectors
-    → combination_of n (coefficients ++ c ∷ []) (vectors ++ vector ∷ []) ≡ plus_scaled (combination_of n coefficients vectors) c vector
-
 -- a part of one packet more is combined
-pub combined_more : (part : Packet → List ℕ) → Last → (n i c : ℕ) (cs : List ℕ) (packets : List Packet) (packet : Packet)
+pub combined_more : (part : Packet → List ℕ) → CombinationLaws → (n i c : ℕ) (cs : List ℕ) (packets : List Packet) (packet : Packet)
     → i < length cs → length cs ≡ length packets → c ≡ get_or cs i 0 → packet ≡ get_or packets i packet
     → plus_scaled (combination_of n (take i cs) (take i (map part packets))) c (part packet)
     ≡ combination_of n (take (i + 1) cs) (take (i + 1) (map part packets))
-combined_more part last n i c cs packets packet within same c_is is =
+combined_more part laws n i c cs packets packet within same c_is is =
     let there : i < length packets = omega arith in
     let mapped : i < length (map part packets) = omega (arith, length-map packets part) in
     let counts : length (take i cs) ≡ length (take i (map part packets)) = length-take-le i cs (omega arith) ∙ sym (length-take-le i (map part packets) (omega arith)) in
     let coefficient = take_more cs i 0 within in
     let vector = take_more (map part packets) i [] mapped in
     let part_is = ap part is ∙ sym (get_or-map part packets i packet [] there) in
-    sym (last n c (take i cs) (part packet) (take i (map part packets)) counts)
+    sym (laws.last n c (take i cs) (part packet) (take i (map part packets)) counts)
     ∙ ap₂ (combination_of n)
     (ap (λ a. take i cs ++ a ∷ []) c_is ∙ sym coefficient)
     (ap (λ v. take i (map part packets) ++ v ∷ []) part_is ∙ sym vector)

@@ -1,5 +1,5 @@
 //! The laws of rows, cases and rank, for all lists of packets and vectors.
-ghost use Rattle.linear_spec.specs.RowLaws.{RowLaws, ReductionLaws, DecisionLaws, CaseLaws};
+ghost use Rattle.linear_spec.specs.RowLaws.{CaseLaws, DecisionLaws, FillingLaws, MissingColumnLaws, ReductionLaws, RowLaws};
 ghost use Rattle.linear_spec.specs.SpanLaws.{RankLaws};
 
 /// Packets and the rows that stand for them have one span. Each packet is fresh after those before it, so the rank of both is
@@ -36,6 +36,21 @@ pub fn one_case()
 /// outside the span makes it one greater, and lists of one span have one rank.
 pub fn ranks()
     ensures { RankLaws }
+{
+    gf16::laws::field();
+}
+
+/// Rows that stand for the same packets are the same vectors, so the missing columns are a fact of the packets.
+pub fn missing_columns()
+    ensures { MissingColumnLaws }
+{
+    gf16::laws::field();
+}
+
+/// Rows and missing columns are k together. Packets with the unit vectors of the missing columns are fresh one after
+/// another, and with them the span is full.
+pub fn filling()
+    ensures { FillingLaws }
 {
     gf16::laws::field();
 }

@@ -1,5 +1,5 @@
 //! The laws of combinations and spans, for all lists of vectors.
-ghost use Rattle.linear_spec.specs.SpanLaws.{CombinationLaws, SpanLaws};
+ghost use Rattle.linear_spec.specs.SpanLaws.{CombinationLaws, FullRankLaws, SpanLaws};
 
 /// The laws of the span, for every list of vectors of n symbols.
 pub fn spans()
@@ -11,6 +11,13 @@ pub fn spans()
 /// The laws of combinations, for every list of vectors and of packets that fit.
 pub fn combinations()
     ensures { CombinationLaws }
+{
+    gf16::laws::field();
+}
+
+/// Vectors of n symbols have rank n exactly where they span every vector of n symbols.
+pub fn full_rank()
+    ensures { FullRankLaws }
 {
     gf16::laws::field();
 }

@@ -34,6 +34,6 @@ returns-clause-judged g c =
     let are = subst (λ (e : Equations). AreReceived e c.args.receivers contents.packets bases) (same_equations contents c.in_ok-equations.equations c.in_ok-equations.ensures.value) (record { count = c.in_ok-bases.ensures.count; each = c.in_ok-bases.ensures.each }) in
     let fits : All (Fits shape.k (symbols_per_block shape)) contents.packets = All-weaker (IsPacket shape) (Fits shape.k (symbols_per_block shape)) (λ p it. it.fits) contents.packets c.requires.packets in
     judged_of contents (record { bases = c.in_ok-traces.traces; sends = c.new.result }) bases are.count
-    (ranks_are c.callers.ensures.recorded c.records.ensures.innovative c.calls.ensures.spans c.calls.ensures.rank c.spans.ensures.member c.spans.ensures.closed c.ranks.ensures.one_span contents c.args.receivers bases c.requires.some fits are)
+    (ranks_are c.callers.ensures.recorded c.records.ensures.innovative c.calls.ensures.spans c.calls.ensures.rank c.spans.ensures c.ranks.ensures contents c.args.receivers bases c.requires.some fits are)
     c.solved-file.result (ap (λ (l : List BasisTrace). recorded_packets l) c.in_ok-traces.ensures ∙ recorded_of 0 bases)
     c.solved-file.ensures.full c.solved-file.ensures.file c.solved-file.ensures.digest c.solved-file.ensures.stop

@@ -3,7 +3,6 @@ use Rattle.linear_spec.specs.Symbols.{AreBytes}
 use Rattle.packet_wire.specs.Judgements.{body_len_in, fault_at}
 use Rattle.packet_wire.specs.Making.{frame_in}
 use Rattle.packet_wire.proofs.Admits.{fails_now, is_whole, makes_frame}
-use Rattle.packet_wire.proofs.Wholes.{symbol_laws}
 use Rattle.packet_wire.proofs.admit.admit.Goals as goal
 
 pub returns-in-Some : goal.returns-in-Some
@@ -25,8 +24,7 @@ make-requires c =
 
 pub returns-in-Ok : goal.returns-in-Ok
 returns-in-Ok c =
-    let told = c.bytes_spell_symbols.ensures in
-    let laws = symbol_laws told.length told.bytes told.are_symbols in
+    let laws = c.bytes_spell_symbols.ensures in
     let before = c.args.held.now.items in
     let after = c.make_room.new.held.items in
     let held : after ≡ before ++ c.args.byte ∷ [] = search rules in

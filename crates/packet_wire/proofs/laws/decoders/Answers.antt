@@ -1,5 +1,4 @@
 use Rattle.packet_wire.proofs.Answering.{meaning, one_given}
-use Rattle.packet_wire.proofs.Readings.{bytes_laws}
 use Rattle.packet_wire.proofs.laws.decoders.Goals as goal
 
 pub returns-clause-meaning : goal.returns-clause-meaning
@@ -7,6 +6,5 @@ returns-clause-meaning c = meaning
 
 pub returns-clause-one_given : goal.returns-clause-one_given
 returns-clause-one_given c =
-    let told = c.bytes_spell_symbols.ensures in
-    let laws = bytes_laws told.length told.symbols in
+    let laws = c.bytes_spell_symbols.ensures in
     one_given laws

@@ -14,4 +14,4 @@ returns-clause-ok c =
     let generation : c.put_bytes.new.out.items ≡ c.start_frame.new.out.items ++ to_be_bytes w16 packet.generation = search rules in
     let coeffs : c.put_symbols.new.out.items ≡ c.put_bytes.new.out.items ++ be_bytes_of packet.coeffs = search rules in
     let payload : c.put_symbols-2.new.out.items ≡ c.put_symbols.new.out.items ++ be_bytes_of packet.payload = search rules in
-    packet_written c.bytes_spell_symbols.ensures.length packet len _ _ _ _ _ counted headed generation coeffs payload
+    packet_written c.bytes_spell_symbols.ensures packet len _ _ _ _ _ counted headed generation coeffs payload

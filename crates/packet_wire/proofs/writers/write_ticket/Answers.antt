@@ -12,4 +12,4 @@ returns-clause-ok c =
     let headed : c.start_frame.new.out.items ≡ c.args.out.now.items ++ head 2 len = search rules in
     let key_length : length ticket.key ≡ 32 = search rules in
     let sums : c.put_symbols.new.out.items ≡ c.put.new.self.items ++ be_bytes_of ticket.sums = search rules in
-    ticket_written c.bytes_spell_symbols.ensures.length ticket len _ _ _ _ _ key_length counted headed c.put_bytes.ensures.items c.put.ensures.items sums
+    ticket_written c.bytes_spell_symbols.ensures ticket len _ _ _ _ _ key_length counted headed c.put_bytes.ensures.items c.put.ensures.items sums

@@ -1,7 +1,7 @@
 use Rattle.std.proofs.Common.{◌≡◌, ℕ, List, length, sym, subst, arith}
 use Rattle.linear_spec.specs.declared.packet.Packet.{Packet}
 use Rattle.plain_basis.specs.BackSubstitution.{AreRows}
-use Rattle.plain_basis.proofs.BackSubstitution.{HasBlockLaws, IsSolvedFrom, solved_none, as_many, as_long, has_pivot, solved_step}
+use Rattle.plain_basis.proofs.BackSubstitution.{IsSolvedFrom, solved_none, as_many, as_long, has_pivot, solved_step}
 use Rattle.plain_basis.proofs.solve.solve_rows.Goals as goal
 
 rows_of : (k s : ℕ) (rows items : List Packet) → rows ≡ items → AreRows k s items → AreRows k s rows
@@ -24,13 +24,8 @@ block_of-requires-clause-vectors c =
 
 pub loop-at-preserved-in-Some : goal.loop-at-preserved-in-Some
 loop-at-preserved-in-Some c =
-    let laws : HasBlockLaws = record {
-      first = c.combinations.ensures.first;
-      is_vector = c.combinations.ensures.is_vector;
-      known = c.solving.ensures.known;
-      kept = c.solving.ensures.kept;
-    } in
-    solved_step c.args.k c.args.s c.as_slice-rows.result.now (rows_of c.args.k c.args.s c.as_slice-rows.result.now c.args.rows.now.items c.as_slice-rows.ensures c.requires) laws c.loop-at.at c.in-Some.pivot c.index-rows-at.result
+    solved_step c.args.k c.args.s c.as_slice-rows.result.now (rows_of c.args.k c.args.s c.as_slice-rows.result.now c.args.rows.now.items c.as_slice-rows.ensures c.requires)
+    c.combinations.ensures c.solving.ensures c.loop-at.at c.in-Some.pivot c.index-rows-at.result
     c.as_slice.result.now c.in_ok-block.block c.loop-at.blocks.items c.put_block.new.blocks.items (omega arith) (omega arith)
     c.index-rows-at.is c.loop-at.invariant c.as_slice.ensures c.in-Some.ensures.0 c.in_ok-block.ensures c.put_block.ensures
 

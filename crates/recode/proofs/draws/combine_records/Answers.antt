@@ -52,17 +52,17 @@ loop-n-preserved c =
     let is : packet ≡ get_or packets n packet = packet_there seen n other there in
     let kept : (get_or c.loop-n.pass.seen n other).packet ≡ packet =
     ap (λ records. (get_or records n other).packet) c.loop-n.invariant.pass.seen in
-    let last = c.combinations.ensures.last in
+    let laws = c.combinations.ensures in
     record {
       pass = has_kept-trans c.args.pass.now c.loop-n.pass c.add_packet.new.pass c.loop-n.invariant.pass c.add_packet.ensures.pass;
       counts = (c.add_packet.ensures.counts.1 ∙ c.loop-n.invariant.counts.0, c.add_packet.ensures.counts.2 ∙ c.loop-n.invariant.counts.1);
       coeffs =
           c.add_packet.ensures.coeffs other
           ∙ ap₂ (λ u (p : Packet). plus_scaled u coefficient p.coeffs) c.loop-n.invariant.coeffs kept
-          ∙ combined_more (λ p. p.coeffs) last c.args.basis.now.parameters.k n coefficient coefficients packets packet within same coefficient_is is;
+          ∙ combined_more (λ p. p.coeffs) laws c.args.basis.now.parameters.k n coefficient coefficients packets packet within same coefficient_is is;
       payload =
           c.add_packet.ensures.payload other
           ∙ ap₂ (λ u (p : Packet). plus_scaled u coefficient p.payload) c.loop-n.invariant.payload kept
-          ∙ combined_more (λ p. p.payload) last c.args.basis.now.parameters.s n coefficient coefficients packets packet within same coefficient_is is;
+          ∙ combined_more (λ p. p.payload) laws c.args.basis.now.parameters.s n coefficient coefficients packets packet within same coefficient_is is;
       generation = c.add_packet.ensures.generation ∙ c.loop-n.invariant.generation;
     }

@@ -35,13 +35,13 @@ loop-n-preserved c =
     let within : n < length coefficients = omega arith in
     let packet = c.index-packets-n.result in
     let coefficient = get_or coefficients n 0 in
-    let last = c.combinations.ensures.last in
+    let laws = c.combinations.ensures in
     record {
       coeffs =
           c.add_packet.ensures.coeffs ∙ ap (λ u. plus_scaled u coefficient packet.coeffs) c.loop-n.invariant.coeffs
-          ∙ combined_more (λ p. p.coeffs) last (length c.args.out.now.coeffs) n coefficient coefficients packets packet within same refl c.index-packets-n.is;
+          ∙ combined_more (λ p. p.coeffs) laws (length c.args.out.now.coeffs) n coefficient coefficients packets packet within same refl c.index-packets-n.is;
       payload =
           c.add_packet.ensures.payload ∙ ap (λ u. plus_scaled u coefficient packet.payload) c.loop-n.invariant.payload
-          ∙ combined_more (λ p. p.payload) last (length c.args.out.now.payload) n coefficient coefficients packets packet within same refl c.index-packets-n.is;
+          ∙ combined_more (λ p. p.payload) laws (length c.args.out.now.payload) n coefficient coefficients packets packet within same refl c.index-packets-n.is;
       generation = c.add_packet.ensures.generation ∙ c.loop-n.invariant.generation;
     }

@@ -34,25 +34,25 @@ returns-clause-within c words file is none =
 pub returns-clause-rank : goal.returns-clause-rank
 returns-clause-rank c words file is whole generation below =
     seeded_rank c.blocks_by_generation.ensures.count c.blocks_by_generation.ensures.vectors words file is c.spans.ensures.fits
-    (unit_combines c.field.ensures c.combinations.ensures.none c.combinations.ensures.first) c.truth.ensures.drawn
+    (unit_combines c.field.ensures c.combinations.ensures) c.truth.ensures.drawn
     c.weights_and_sums.ensures.weights c.weights_and_sums.ensures.sums c.true_packets_pass.ensures.pass
-    c.ranks.ensures.some c.ranks.ensures.at_most_symbols (full_rank_of_units c.field.ensures c.ranks.ensures.more) generation whole below
+    c.ranks.ensures (full_rank_of_units c.field.ensures c.ranks.ensures) generation whole below
 
 pub returns-clause-truth : goal.returns-clause-truth
 returns-clause-truth c words file is generation below =
     seeded_truth c.blocks_by_generation.ensures.count c.blocks_by_generation.ensures.vectors words file is c.spans.ensures.fits
-    (unit_combines c.field.ensures c.combinations.ensures.none c.combinations.ensures.first) c.truth.ensures.drawn
+    (unit_combines c.field.ensures c.combinations.ensures) c.truth.ensures.drawn
     c.weights_and_sums.ensures.weights c.weights_and_sums.ensures.sums c.true_packets_pass.ensures.pass generation below
 
 pub returns-clause-packets : goal.returns-clause-packets
 returns-clause-packets c words file is =
     seeded_true c.blocks_by_generation.ensures.count c.blocks_by_generation.ensures.vectors words file is c.spans.ensures.fits
-    (unit_combines c.field.ensures c.combinations.ensures.none c.combinations.ensures.first) c.truth.ensures.drawn
+    (unit_combines c.field.ensures c.combinations.ensures) c.truth.ensures.drawn
 
 pub returns-clause-pass : goal.returns-clause-pass
 returns-clause-pass c words file is =
     seeded_pass c.blocks_by_generation.ensures.count c.blocks_by_generation.ensures.vectors words file is c.spans.ensures.fits
-    (unit_combines c.field.ensures c.combinations.ensures.none c.combinations.ensures.first) c.truth.ensures.drawn
+    (unit_combines c.field.ensures c.combinations.ensures) c.truth.ensures.drawn
     c.weights_and_sums.ensures.weights c.weights_and_sums.ensures.sums c.true_packets_pass.ensures.pass
 
 pub returns-clause-file : goal.returns-clause-file

@@ -17,4 +17,4 @@ returns-clause-nobody c = λ equations records innovative below.
     legal_from_local equations (given_by []) records (nobody equations records innovative (callers_stay_below records below))
 
 pub returns-clause-at_most : goal.returns-clause-at_most
-returns-clause-at_most c = λ equations records fit innovative. at_most equations records fit innovative c.rows.ensures.some c.rows.ensures.at_most
+returns-clause-at_most c = λ equations records fit innovative. at_most equations records fit innovative c.rows.ensures

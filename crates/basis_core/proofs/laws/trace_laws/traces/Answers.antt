@@ -14,4 +14,4 @@ pub returns-clause-replays : goal.returns-clause-replays
 returns-clause-replays c = trace_replays
 
 pub returns-clause-one_replay : goal.returns-clause-one_replay
-returns-clause-one_replay c = one_replay c.one_case.ensures.within_follows
+returns-clause-one_replay c = one_replay c.one_case.ensures

@@ -5,5 +5,5 @@ use Rattle.basis_core.proofs.machine.Core.draw.Goals as goal
 pub overflow_cast-front : goal.overflow_cast-front
 overflow_cast-front c =
     let inside = c.self.inside in
-    let bound = few inside.k inside.s inside.records.items inside.rows.items c.self.invariant c.rows.ensures.at_most in
+    let bound = few inside.k inside.s inside.records.items inside.rows.items c.self.invariant c.rows.ensures in
     omega (arith, c.len-front.ensures)

@@ -12,7 +12,7 @@ use Rattle.basis_core.proofs.machine.Core.judge.Goals as goal
 pub overflow_cast-front : goal.overflow_cast-front
 overflow_cast-front c =
     let inside = c.self.inside in
-    let bound = few inside.k inside.s inside.records.items inside.rows.items c.self.invariant c.rows.ensures.at_most in
+    let bound = few inside.k inside.s inside.records.items inside.rows.items c.self.invariant c.rows.ensures in
     let same = ap length c.reserve-2.ensures.items in
     omega (arith, c.len-front.ensures)
 
@@ -28,7 +28,7 @@ invariant_of-self-in-Fresh c =
     let r : Record = record { caller = c.args.caller; call = c.calls_made-call.result; packet = c.in_ok-packet-in-Fresh.packet } in
     sound_after inside.k inside.s inside.records.items inside.rows.items c.reserve-3.new.self.items c.args.packet.now c.self.invariant
     (subst (λ b. Fits b.k b.s c.args.packet.now) (sym c.self.view_is) c.requires.fits) c.reserve-3.ensures.items
-    c.decision.ensures.joins c.in-Fresh.row r c.put-in-Fresh.new.self.items c.put-in-Fresh-2.new.self.items
+    c.decision.ensures c.in-Fresh.row r c.put-in-Fresh.new.self.items c.put-in-Fresh-2.new.self.items
     (subst (Tells c.reserve-3.new.self.items c.args.packet.now) c.in-Fresh.is c.in_ok-row.ensures) c.in_ok-packet-in-Fresh.ensures
     (c.put-in-Fresh.ensures.items ∙ ap (λ rs. rs ++ r ∷ []) c.reserve-2.ensures.items) c.put-in-Fresh-2.ensures.items
 

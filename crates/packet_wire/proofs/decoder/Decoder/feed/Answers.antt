@@ -1,5 +1,4 @@
 use Rattle.packet_wire.proofs.Answering.{fails_in, nothing_fails_in, reads_on, out_of_memory, stays_at_fault, stays_out, unless_memory}
-use Rattle.packet_wire.proofs.Readings.{bytes_laws}
 use Rattle.packet_wire.proofs.decoder.Decoder.feed.Goals as goal
 
 pub returns-clause-after : goal.returns-clause-after
@@ -7,8 +6,7 @@ returns-clause-after c = unless_memory c.take_bytes.new.self.failure c.answer.re
 
 pub returns-clause-ok_only : goal.returns-clause-ok_only
 returns-clause-ok_only c =
-    let told = c.bytes_spell_symbols.ensures in
-    let laws = bytes_laws told.length told.symbols in
+    let laws = c.bytes_spell_symbols.ensures in
     nothing_fails_in laws c.args.self.now c.args.piece.now c.take_bytes.new.self c.args.frames.now.items c.take_bytes.new.frames.items c.answer.result c.take_bytes.ensures c.answer.ensures
 
 pub returns-clause-ok : goal.returns-clause-ok
@@ -21,8 +19,7 @@ returns-clause-fault c =
 
 pub returns-clause-same_fault : goal.returns-clause-same_fault
 returns-clause-same_fault c =
-    let told = c.bytes_spell_symbols.ensures in
-    let laws = bytes_laws told.length told.symbols in
+    let laws = c.bytes_spell_symbols.ensures in
     stays_at_fault laws c.args.self.now c.args.piece.now c.take_bytes.new.self c.args.frames.now.items c.take_bytes.new.frames.items c.answer.result c.take_bytes.ensures c.answer.ensures
 
 pub returns-clause-memory : goal.returns-clause-memory

@@ -5,19 +5,16 @@ use Rattle.packet_wire.specs.declared.fault.FeedError.TheVariants.{Fault}
 use Rattle.packet_wire.specs.declared.fault.WireFault.{WireFault}
 use Rattle.packet_wire.specs.Decoding.{taken_by}
 use Rattle.packet_wire.proofs.Answering.{ended_fault, ended_stream, failed_fault, failed_stream, short_only, short_stream}
-use Rattle.packet_wire.proofs.Readings.{bytes_laws}
 use Rattle.packet_wire.proofs.decoder.Decoder.finish.Goals as goal
 
 pub returns-in-Some-clause-stream : goal.returns-in-Some-clause-stream
 returns-in-Some-clause-stream c =
-    let told = c.bytes_spell_symbols.ensures in
-    let laws = bytes_laws told.length told.symbols in
+    let laws = c.bytes_spell_symbols.ensures in
     λ fed given contents after stream. absurd (failed_stream laws c.args.self.now c.in-Some.error c.in-Some.is fed given contents after stream)
 
 pub returns-in-Some-clause-fault : goal.returns-in-Some-clause-fault
 returns-in-Some-clause-fault c =
-    let told = c.bytes_spell_symbols.ensures in
-    let laws = bytes_laws told.length told.symbols in
+    let laws = c.bytes_spell_symbols.ensures in
     λ fed given fault after.
     let both = failed_fault laws c.args.self.now c.in-Some.error c.in-Some.is fed given fault after in
     (λ is. both.0 cc, λ first. ap (λ (e : FeedError). Err e) (both.1 first))
@@ -27,21 +24,18 @@ returns-in-Ended-clause-ok c = λ fed given after. ended_stream c.args.self.now 
 
 pub returns-in-Ended-clause-fault : goal.returns-in-Ended-clause-fault
 returns-in-Ended-clause-fault c =
-    let told = c.bytes_spell_symbols.ensures in
-    let laws = bytes_laws told.length told.symbols in
+    let laws = c.bytes_spell_symbols.ensures in
     λ fed given fault after.
     (λ is. absurd cc, λ first. absurd (ended_fault laws c.args.self.now c.in-None.is c.in-Ended.is fed given fault after first))
 
 pub returns-in_default-clause-stream : goal.returns-in_default-clause-stream
 returns-in_default-clause-stream c =
-    let told = c.bytes_spell_symbols.ensures in
-    let laws = bytes_laws told.length told.symbols in
+    let laws = c.bytes_spell_symbols.ensures in
     λ fed given contents after stream. absurd (short_stream laws c.args.self.now c.in-None.is c.in_default.not-Ended fed given contents after stream)
 
 pub returns-in_default-clause-fault : goal.returns-in_default-clause-fault
 returns-in_default-clause-fault c =
-    let told = c.bytes_spell_symbols.ensures in
-    let laws = bytes_laws told.length told.symbols in
+    let laws = c.bytes_spell_symbols.ensures in
     λ fed given fault after.
     let d = c.args.self.now in
     let count : d.start + c.len.result ≡ taken_by d = omega (arith, c.len.ensures) in

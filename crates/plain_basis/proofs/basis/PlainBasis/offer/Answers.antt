@@ -37,7 +37,7 @@ invariant_of-self-in-Some c =
     c.self.invariant (subst (λ b. Fits b.k b.s c.args.packet) (sym c.self.view_is) c.requires) c.reserve-2.ensures.items c.in_ok-row.ensures
     c.reduce.ensures.vector c.reduce.ensures.coeffs c.reduce.ensures.payload in
     let after = sound_after basis inside.rows.items c.args.packet c.reduce.new.vector.coeffs c.reduce.new.vector.payload reduced
-    c.decision.ensures.stands c.decision.ensures.joins c.in-Some.inverse.0 c.scale.new.vector (search rules)
+    c.decision.ensures c.in-Some.inverse.0 c.scale.new.vector (search rules)
     (subst (λ v. product_of (get_or v (first_nonzero v) 0) c.in-Some.inverse.0 ≡ 1) c.as_slice.ensures c.in-Some.ensures) c.scale.ensures.coeffs c.scale.ensures.payload in
     let packets : c.put.new.self.items ≡ inside.packets.items ++ c.args.packet ∷ [] = c.put.ensures.items ∙ ap (λ ps. ps ++ c.args.packet ∷ []) c.reserve.ensures.items in
     let rows : c.put-in-Some.new.self.items ≡ inside.rows.items ++ c.scale.new.vector ∷ [] = c.put-in-Some.ensures.items ∙ ap (λ rs. rs ++ c.scale.new.vector ∷ []) c.reserve-2.ensures.items in
@@ -54,7 +54,7 @@ returns-in-Some-clause-reply c =
     let front : c.len-front.result ≡ length inside.packets.items = c.len-front.ensures ∙ ap length c.reserve.ensures.items in
     subst (λ b. IsFresh b.k b.packets c.args.packet × (c.len-front.result ≡ length b.packets)) c.self.view_is (
       is_fresh basis inside.rows.items c.args.packet c.reduce.new.vector.coeffs c.reduce.new.vector.payload reduced c.field.ensures
-          c.decision.ensures.fresh c.in-Some.inverse.0
+          c.decision.ensures c.in-Some.inverse.0
           (subst (λ v. product_of (get_or v (first_nonzero v) 0) c.in-Some.inverse.0 ≡ 1) c.as_slice.ensures c.in-Some.ensures),
       front,
     )
@@ -69,7 +69,7 @@ returns-then-is_zero-clause-reply c =
     let front : c.len-front.result ≡ length inside.packets.items = c.len-front.ensures ∙ ap length c.reserve.ensures.items in
     subst (λ b. IsWithin b.k b.s b.packets c.args.packet × (c.len-front.result ≡ length b.packets)) c.self.view_is (
       is_within basis inside.rows.items c.args.packet c.reduce.new.vector.coeffs c.reduce.new.vector.payload reduced
-          c.decision.ensures.within
+          c.decision.ensures
           (subst (λ v. v ≡ replicate (length v) 0) c.as_slice.ensures c.in-None.ensures)
           (subst (λ v. v ≡ replicate (length v) 0) c.as_slice-in-None.ensures (c.if-is_zero.ensures.0 refl)),
       front,
@@ -85,7 +85,7 @@ returns-clause-reply c =
     let front : c.len-front.result ≡ length inside.packets.items = c.len-front.ensures ∙ ap length c.reserve.ensures.items in
     subst (λ b. IsConflicting b.k b.s b.packets c.args.packet × (c.len-front.result ≡ length b.packets)) c.self.view_is (
       is_conflicting basis inside.rows.items c.args.packet c.reduce.new.vector.coeffs c.reduce.new.vector.payload reduced
-          c.decision.ensures.fresh c.decision.ensures.within
+          c.decision.ensures
           (subst (λ v. v ≡ replicate (length v) 0) c.as_slice.ensures c.in-None.ensures)
           (λ zeros. let never : false ≡ true = c.if-is_zero.ensures.1 (subst (λ v. v ≡ replicate (length v) 0) (sym c.as_slice-in-None.ensures) zeros) in cc),
       front,
