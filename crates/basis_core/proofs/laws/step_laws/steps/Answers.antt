@@ -3,7 +3,7 @@ use Rattle.basis_core.proofs.laws.step_laws.steps.Goals as goal
 
 pub returns : goal.returns
 returns c = record {
-  step = steps.step c.histories.ensures.quiet c.histories.ensures.own_record;
+  step = steps.step c.histories.ensures;
   seen = steps.seen;
   others = steps.others;
 }
