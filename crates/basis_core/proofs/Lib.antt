@@ -1,4 +1,5 @@
 pub mod FirstNonzero
+pub mod Called
 pub mod Law
 pub mod Lists
 pub mod Local

@@ -1,5 +1,5 @@
 -- The laws of the records and of the given callers of a legal history, by name.
-use Rattle.std.specs.Prelude.{◌≡◌, ◌<◌, ◌≤◌, ◌^◌, ℕ, List, [], length, map, Some}
+use Rattle.std.specs.Prelude.{◌≡◌, ◌<◌, ◌≤◌, ◌^◌, ℕ, List, [], length, map, Some, slice_index_or}
 use Rattle.std.specs.List.{All, filter}
 use Rattle.linear_spec.specs.declared.equations.Equations.{Equations}
 use Rattle.linear_spec.specs.declared.record.Record.{Record}
@@ -8,7 +8,7 @@ use Rattle.linear_spec.specs.SequentialBasis.{packets_of}
 use Rattle.basis_core.specs.Calls.{KeptCall}
 use Rattle.basis_core.specs.Run.{AreInnovative, is_by}
 use Rattle.basis_core.specs.Merge.{Given, given_by, made_by, all_calls, merge_of}
-use Rattle.basis_core.specs.Legal.{IsLegalHistory, IsAnsweredOver, IsRecordedIn}
+use Rattle.basis_core.specs.Legal.{IsLegalHistory, IsAnsweredOver, IsRecordedIn, IsCalledAt}
 
 -- the records of a legal history
 pub record RecordLaws : Type 0 where
@@ -38,3 +38,8 @@ pub record CallerLaws : Type 0 where
   pub recorded : (equations : Equations) (given : Given) (records : List Record) (number : ℕ) (calls : List KeptCall)
       → IsLegalHistory equations given records → given number ≡ Some calls
       → All (λ record'. record'.caller ≡ number → IsRecordedIn calls record'.packet) records
+  -- and each of them is the caller's call of the record's number, which recorded the packet at the record's place
+  pub called : (equations : Equations) (given : Given) (records : List Record) (number : ℕ) (calls : List KeptCall)
+      → IsLegalHistory equations given records → given number ≡ Some calls → (at : ℕ) (record' : Record) → at < length records
+      → (slice_index_or records at record').caller ≡ number
+      → IsCalledAt calls (slice_index_or records at record').call at (slice_index_or records at record').packet

@@ -10,7 +10,8 @@ pub fn records()
 }
 
 /// The given callers of a legal history: each call was answered as the sequential basis does over the records, at its
-/// point, which is at most their number; and the merge has the caller's calls once each, in the caller's own order.
+/// point, which is at most their number; the merge has the caller's calls once each, in the caller's own order;
+/// and each of the caller's records is its call of the record's number.
 pub fn callers()
     ensures { CallerLaws }
 {}

@@ -1,3 +1,4 @@
+use Rattle.basis_core.proofs.Called.{called}
 use Rattle.basis_core.proofs.Told.{answered_over, once}
 use Rattle.basis_core.proofs.Recorded.{recorded_in}
 use Rattle.basis_core.proofs.laws.record_laws.callers.Goals as goal
@@ -7,4 +8,5 @@ returns c = record {
   answered = answered_over;
   once = once;
   recorded = recorded_in;
+  called = called;
 }
