@@ -1,3 +1,4 @@
+pub mod Called
 pub mod Law
 pub mod Lists
 pub mod Local

@@ -10,6 +10,7 @@ use Rattle.linear_spec.specs.SequentialBasis.{packets_of}
 use Rattle.basis_core.specs.Calls.{KeptCall, KeptOffer, KeptDraw, point_of, recorded_by, seen_after, AreInOrderFrom, AreInOrder, IsAnsweredAt}
 use Rattle.basis_core.specs.Merge.{Given, caller_numbers}
 use Rattle.basis_core.specs.Legal.{IsLegalHistory, Gains, IsAnsweredOver, IsNext, HaveSeenAtMost, record_by}
+use Rattle.basis_core.specs.HistoryLaws.{HistoryLaws}
 
 -- a call whose point is not below what all calls before have seen stands last in order
 in_order_more : (calls : List KeptCall) (call : KeptCall) (n seen : ℕ) → AreInOrderFrom calls seen → HaveSeenAtMost n calls → seen ≤ n → n ≤ point_of call → AreInOrderFrom (calls ++ call ∷ []) seen
@@ -63,17 +64,11 @@ added number count (KeptDraw tag drawn) = refl
 
 -- ---- the law, from the law of histories
 
-abbrev pub Quiet : Type 0
-Quiet = (equations : Equations) (before after : Given) (records : List Record) (number : ℕ) (calls : List KeptCall) (call : KeptCall) → IsLegalHistory equations before records → Gains before after number calls call → recorded_by call ≡ None → AreInOrder (calls ++ call ∷ []) → IsAnsweredOver equations records call → IsLegalHistory equations after records
-
-abbrev pub OwnRecord : Type 0
-OwnRecord = (equations : Equations) (before after : Given) (records : List Record) (record' : Record) (tag : ℕ) (calls : List KeptCall) → IsLegalHistory equations before records → IsNext equations records record' → Gains before after record'.caller calls (KeptOffer tag record'.packet (Innovative (length records))) → length calls ≡ record'.call → AreInOrder (calls ++ KeptOffer tag record'.packet (Innovative (length records)) ∷ []) → IsLegalHistory equations after (records ++ record' ∷ [])
-
-module _ (quiet : Quiet) (own : OwnRecord) where
+module _ (histories : HistoryLaws) where
   -- a call that recorded nothing
   still : (equations : Equations) (before after : Given) (records : List Record) (number : ℕ) (calls : List KeptCall) (call : KeptCall) → IsLegalHistory equations before records → Gains before after number calls call → HaveSeenAtMost (length records) calls → IsAnsweredAt equations (packets_of records) call → recorded_by call ≡ None → IsLegalHistory equations after (records ++ [])
   still equations before after records number calls call legal gains most is none =
-      rw (append-nil records) (quiet equations before after records number calls call legal gains none (in_order equations before records number calls call legal gains.had most (point_over equations records call is)) (over equations records call is))
+      rw (append-nil records) (histories.quiet equations before after records number calls call legal gains none (in_order equations before records number calls call legal gains.had most (point_over equations records call is)) (over equations records call is))
 
   pub step : (equations : Equations) (before after : Given) (records : List Record) (number : ℕ) (calls : List KeptCall) (call : KeptCall) → IsLegalHistory equations before records → Gains before after number calls call → HaveSeenAtMost (length records) calls → IsAnsweredAt equations (packets_of records) call → IsLegalHistory equations after (records ++ record_by number (length calls) call)
   step equations before after records number calls (KeptOffer tag packet (FailedCheck check at)) legal gains most is =
@@ -81,7 +76,7 @@ module _ (quiet : Quiet) (own : OwnRecord) where
   step equations before after records number calls (KeptOffer tag packet (Innovative at)) legal gains most is =
       let point = point_over equations records (KeptOffer tag packet (Innovative at)) is in
       let next : IsNext equations records (record { caller = number; call = length calls; packet = packet }) = record { passes = is.0; fresh = is.1.0; number = below number (legal.numbers number calls gains.had) } in
-      own equations before after records (record { caller = number; call = length calls; packet = packet }) tag calls legal next
+      histories.own_record equations before after records (record { caller = number; call = length calls; packet = packet }) tag calls legal next
       (subst (λ (n : ℕ). Gains before after number calls (KeptOffer tag packet (Innovative n))) point gains) refl
       (subst (λ (n : ℕ). AreInOrder (calls ++ KeptOffer tag packet (Innovative n) ∷ [])) point (in_order equations before records number calls (KeptOffer tag packet (Innovative at)) legal gains.had most point))
   step equations before after records number calls (KeptOffer tag packet (NotInnovative at)) legal gains most is =

@@ -80,6 +80,12 @@ pub record IsRecordAt (records : List Record) (place caller : ℕ) (packet : Pac
   pub caller_is : (record' : Record) → (slice_index_or records place record').caller ≡ caller
   pub packet_is : (record' : Record) → (slice_index_or records place record').packet ≡ packet
 
+-- the call of this number is an offer that recorded this packet at this place
+pub record IsCalledAt (calls : List KeptCall) (number at : ℕ) (packet : Packet) : Type 0 where
+  pub within : number < length calls
+  pub recorded : (call : KeptCall) → recorded_by (slice_index_or calls number call) ≡ Some packet
+  pub point : (call : KeptCall) → point_of (slice_index_or calls number call) ≡ at
+
 -- what a call of this caller recorded, if it did, is the record at the call's point
 abbrev pub HasItsRecord : List Record → ℕ → KeptCall → Type 0
 HasItsRecord records caller call = (packet : Packet) → recorded_by call ≡ Some packet

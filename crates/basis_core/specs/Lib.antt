@@ -1,7 +1,12 @@
+pub mod CallLaws
 pub mod Calls
 pub mod Entries
+pub mod HistoryLaws
 pub mod Legal
 pub mod Machine
 pub mod Merge
+pub mod RecordLaws
 pub mod Run
+pub mod StepLaws
+pub mod TraceLaws
 pub mod Traces

@@ -1,18 +1,5 @@
 //! What the merge of a trace is to legal histories, and what the machine makes of it.
-ghost use Rattle.std.specs.Prelude.{◌≡◌, ◌≢◌, ℕ, List, map, None};
-ghost use Rattle.std.specs.List.{All};
-ghost use Rattle.linear_spec.specs.declared.equations.Equations.{Equations};
-ghost use Rattle.linear_spec.specs.declared.record.Record.{Record};
-ghost use Rattle.basis_core.specs.declared.trace.CallerTrace.{CallerTrace};
-ghost use Rattle.basis_core.specs.declared.trace.CallerOffers.{CallerOffers};
-ghost use Rattle.basis_core.specs.Calls.{call_of};
-ghost use Rattle.basis_core.specs.Merge.{all_calls, given_by, merge_of};
-ghost use Rattle.basis_core.specs.Legal.{IsLegalHistory};
-ghost use Rattle.basis_core.specs.declared.trace.Answer.{Answer};
-ghost use Rattle.basis_core.specs.declared.trace.Event.{Event};
-ghost use Rattle.basis_core.specs.Machine.{FitsEvent, IsReplay};
-ghost use Rattle.basis_core.specs.Entries.{HasOffers, entries_of, entries_of_caller, merged_entries};
-ghost use Rattle.basis_core.specs.Traces.{AreRising, HasItsCheck, calls_of, kept_of, made_of};
+ghost use Rattle.basis_core.specs.TraceLaws.{TraceLaws};
 
 /// The entries of a trace. `complete`: those of a caller are its calls, all of them, where each offer has its packet and its
 /// check. `merged` and `replays` are of traces that list their callers by rising numbers, those of all records among them.
@@ -21,21 +8,7 @@ ghost use Rattle.basis_core.specs.Traces.{AreRising, HasItsCheck, calls_of, kept
 /// records are a replay of the merged events. `one_replay`: of events that fit there is just one, so these are what `replay`
 /// gives.
 pub fn traces()
-    ensures complete { (caller : CallerTrace) (own : CallerOffers) → HasOffers caller own
-        → map (λ entry. call_of (kept_of entry)) (entries_of_caller caller.number caller.calls.items own.packets.items own.failed.items)
-        ≡ caller.calls.items }
-    ensures merged { (callers : List CallerTrace) (offers : List CallerOffers) (records : List Record) → AreRising (calls_of callers offers) 0
-        → All (λ record'. given_by (calls_of callers offers) record'.caller ≢ None) records
-        → merge_of (all_calls (given_by (calls_of callers offers)) records) ≡ map made_of (merged_entries (entries_of callers offers)) }
-    ensures replays { (equations : Equations) (callers : List CallerTrace) (offers : List CallerOffers) (records : List Record)
-        → AreRising (calls_of callers offers) 0
-        → All (λ record'. given_by (calls_of callers offers) record'.caller ≢ None) records
-        → IsLegalHistory equations (given_by (calls_of callers offers)) records
-        → All (λ entry. HasItsCheck equations entry.event) (entries_of callers offers)
-        → IsReplay equations.k equations.s (map (λ entry. entry.event) (merged_entries (entries_of callers offers)))
-        (map (λ entry. entry.answer) (merged_entries (entries_of callers offers))) records }
-    ensures one_replay { (k s : ℕ) (events : List Event) (answers others : List Answer) (records more : List Record) → All (FitsEvent k s) events
-        → IsReplay k s events answers records → IsReplay k s events others more → (others ≡ answers) × (more ≡ records) }
+    ensures { TraceLaws }
 {
     linear_spec::laws::one_case();
 }
