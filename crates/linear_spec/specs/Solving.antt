@@ -12,3 +12,7 @@ pub record Solves (k s : ℕ) (packets : List Packet) (blocks : List (List ℕ))
   pub count : length blocks ≡ k
   pub vectors : All (IsVector s) blocks
   pub true_to : All (IsTrueTo s blocks) packets
+
+-- what solves the packets is these blocks
+abbrev pub IsOnlySolution : ℕ → ℕ → List Packet → List (List ℕ) → Type 0
+IsOnlySolution k s packets blocks = (others : List (List ℕ)) → Solves k s packets others → others ≡ blocks

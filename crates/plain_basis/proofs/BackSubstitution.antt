@@ -10,7 +10,7 @@ use Rattle.linear_spec.specs.declared.packet.Packet.{Packet}
 use Rattle.linear_spec.specs.Symbols.{AreSymbols, IsVector}
 use Rattle.linear_spec.specs.Combination.{combination_of}
 use Rattle.linear_spec.specs.Packet.{IsTrueTo}
-use Rattle.linear_spec.specs.Rows.{StandsFor, pivot_of, first_nonzero}
+use Rattle.linear_spec.specs.Rows.{StandsFor, pivot_of}
 use Rattle.linear_spec.specs.Solving.{Solves}
 use Rattle.plain_basis.specs.BackSubstitution.{AreRows}
 
@@ -117,26 +117,26 @@ module _ (k s : ℕ) (rows : List Packet) (are : AreRows k s rows) where
   as_long at row blocks some most is solved =
       subst (λ n. All (IsVector n) blocks) (sym (row_stands at row some most is).fits.payload.count) solved.vectors
 
-  pub has_pivot : (at : ℕ) (row : Packet) (coeffs : List ℕ) → 0 < at → at ≤ length rows → row ≡ get_or rows (at - 1) row
-      → coeffs ≡ row.coeffs → coeffs ≡ replicate (length coeffs) 0 → ⊥
-  has_pivot at row coeffs some most is same none =
+  pub has_pivot : (at : ℕ) (row : Packet) → 0 < at → at ≤ length rows → row ≡ get_or rows (at - 1) row
+      → row.coeffs ≡ replicate (length row.coeffs) 0 → ⊥
+  has_pivot at row some most is none =
       let stands = row_stands at row some most is in
       let place = pivot_of row in
       let count = stands.fits.coeffs.count in
       let below = stands.pivot_below in
       let e : ◌≡◌ {A = ℕ} 0 1 =
-      sym (get_or-replicate (length coeffs) place 0 0 (omega (arith, ap length same))) ∙ ap (λ v. get_or v place 0) (sym none ∙ same) ∙ stands.one_at_pivot in
+      sym (get_or-replicate (length row.coeffs) place 0 0 (omega arith)) ∙ ap (λ v. get_or v place 0) (sym none) ∙ stands.one_at_pivot in
       absurd (omega arith)
 
-  pub solved_step : HasBlockLaws → (at pivot : ℕ) (row : Packet) (coeffs block : List ℕ) (blocks after : List (List ℕ)) → 0 < at → at ≤ length rows
-      → row ≡ get_or rows (at - 1) row → IsSolvedFrom k s rows at blocks → coeffs ≡ row.coeffs → pivot ≡ first_nonzero coeffs
+  pub solved_step : HasBlockLaws → (at pivot : ℕ) (row : Packet) (block : List ℕ) (blocks after : List (List ℕ)) → 0 < at → at ≤ length rows
+      → row ≡ get_or rows (at - 1) row → IsSolvedFrom k s rows at blocks → pivot ≡ pivot_of row
       → block ≡ plus_scaled (combination_of (length row.payload) row.coeffs blocks) 1 row.payload → after ≡ set blocks pivot block
       → IsSolvedFrom k s rows (at - 1) after
-  solved_step laws at pivot row coeffs block blocks after some most is solved same first told written =
+  solved_step laws at pivot row block blocks after some most is solved first told written =
       let stands = row_stands at row some most is in
       let before : at ≡ suc (at - 1) = omega arith in
       let block_is : block ≡ plus_scaled (combination_of s row.coeffs blocks) 1 row.payload =
       told ∙ ap (λ n. plus_scaled (combination_of n row.coeffs blocks) 1 row.payload) stands.fits.payload.count in
       subst (IsSolvedFrom k s rows (at - 1))
-      (sym (written ∙ ap (λ p. set blocks p block) (first ∙ ap first_nonzero same) ∙ ap (set blocks (pivot_of row)) block_is))
+      (sym (written ∙ ap (λ p. set blocks p block) first ∙ ap (set blocks (pivot_of row)) block_is))
       (solved_more laws (at - 1) row blocks (omega arith) is (subst (λ n. IsSolvedFrom k s rows n blocks) before solved))

@@ -4,8 +4,7 @@ use Rattle.std.proofs.lemmas.List.{length-map}
 use Rattle.std.proofs.lemmas.Result.{IfOk-weaker}
 use Rattle.linear_spec.specs.declared.record.Record.{Record}
 use Rattle.linear_spec.specs.SequentialBasis.{packets_of}
-use Rattle.linear_spec.specs.Solving.{Solves}
-use Rattle.plain_basis.specs.Solutions.{IsOnlySolution}
+use Rattle.linear_spec.specs.Solving.{Solves, IsOnlySolution}
 use Rattle.back_subst.specs.Shape.{payload_length}
 use Rattle.back_subst.proofs.Shapes.{length_at_first}
 use Rattle.back_subst.proofs.solving.solve.Goals as goal
