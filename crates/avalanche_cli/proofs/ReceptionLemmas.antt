@@ -17,8 +17,7 @@ use Rattle.generation.specs.Shape.{Dimensions, IsShape, generations_of, symbols_
 use Rattle.generation.specs.Blocks.{file_of}
 use Rattle.avalanche_cli.specs.Files.{AreSolvedBy, IsOnlyFileOf, SolveEach}
 use Rattle.linear_spec.specs.Rows.{StandForAll}
-use Rattle.linear_spec.specs.Solving.{Solves}
-use Rattle.plain_basis.specs.Solutions.{IsOnlySolution}
+use Rattle.linear_spec.specs.Solving.{Solves, IsOnlySolution}
 use Rattle.avalanche_cli.specs.Reception.{AppendsSolution, AreSolvedBytes, IsClosedBasis, IsFull}
 
 -- the payloads of records have their common length

@@ -8,9 +8,8 @@ use Rattle.linear_spec.specs.declared.packet.Packet.{Packet}
 use Rattle.linear_spec.specs.Packet.{Fits}
 use Rattle.linear_spec.specs.Rows.{StandForAll}
 use Rattle.linear_spec.specs.SequentialBasis.{packets_of}
-use Rattle.linear_spec.specs.Solving.{Solves}
+use Rattle.linear_spec.specs.Solving.{Solves, IsOnlySolution}
 use Rattle.linear_spec.specs.Symbols.{be_bytes_of}
-use Rattle.plain_basis.specs.Solutions.{IsOnlySolution}
 use Rattle.basis_core.specs.declared.trace.BasisTrace.{BasisTrace}
 use Rattle.shared_basis.specs.declared.params.Closed.{Closed}
 use Rattle.generation.specs.Shape.{Dimensions, IsShape, generations_of, symbols_per_block}

@@ -3,8 +3,7 @@ ghost use Rattle.std.specs.List.{All};
 ghost use Rattle.linear_spec.specs.Packet.{Fits};
 ghost use Rattle.linear_spec.specs.Rows.{StandForAll};
 ghost use Rattle.linear_spec.specs.SequentialBasis.{packets_of};
-ghost use Rattle.linear_spec.specs.Solving.{Solves};
-ghost use Rattle.plain_basis.specs.Solutions.{IsOnlySolution};
+ghost use Rattle.linear_spec.specs.Solving.{Solves, IsOnlySolution};
 ghost use Rattle.back_subst.specs.Shape.{payload_length};
 
 use gf16::Memory;

@@ -7,13 +7,11 @@ use Rattle.std.proofs.Math.ListN.{length-set}
 use Rattle.gf16.specs.Field.{IsSymbol}
 use Rattle.gf16.specs.Sums.{plus_scaled}
 use Rattle.linear_spec.specs.declared.packet.Packet.{Packet}
-use Rattle.linear_spec.specs.Symbols.{IsVector}
+use Rattle.linear_spec.specs.Symbols.{AreSymbols, IsVector}
 use Rattle.linear_spec.specs.Combination.{combination_of}
 use Rattle.linear_spec.specs.Packet.{IsTrueTo}
-use Rattle.linear_spec.specs.Rows.{StandsFor, pivot_of, first_nonzero}
+use Rattle.linear_spec.specs.Rows.{StandsFor, pivot_of}
 use Rattle.linear_spec.specs.Solving.{Solves}
-use Rattle.linear_spec.specs.SolvingLaws.{SolvingLaws}
-use Rattle.linear_spec.specs.SpanLaws.{CombinationLaws}
 use Rattle.plain_basis.specs.BackSubstitution.{AreRows}
 
 pub record IsSolvedFrom (k s : ℕ) (rows : List Packet) (at : ℕ) (blocks : List (List ℕ)) : Type 0 where
@@ -21,6 +19,19 @@ pub record IsSolvedFrom (k s : ℕ) (rows : List Packet) (at : ℕ) (blocks : Li
   pub vectors : All (IsVector s) blocks
   pub true_to : (j : ℕ) (d : Packet) → at ≤ j → j < length rows → IsTrueTo s blocks (get_or rows j d)
   pub unknown : (j : ℕ) (d : Packet) → j < at → j < length rows → get_or blocks (pivot_of (get_or rows j d)) [] ≡ replicate s 0
+
+-- the laws of combinations that a step takes
+pub record HasBlockLaws : Type 0 where
+  pub first : (n c : ℕ) (coefficients vector : List ℕ) (vectors : List (List ℕ))
+      → combination_of n (c ∷ coefficients) (vector ∷ vectors) ≡ plus_scaled (combination_of n coefficients vectors) c vector
+  pub is_vector : (n : ℕ) (coefficients : List ℕ) (vectors : List (List ℕ)) → AreSymbols coefficients → All (IsVector n) vectors
+      → IsVector n (combination_of n coefficients vectors)
+  pub known : (s place : ℕ) (coeffs payload : List ℕ) (blocks : List (List ℕ)) → AreSymbols coeffs → IsVector s payload → All (IsVector s) blocks
+      → place < length blocks → get_or blocks place [] ≡ replicate s 0 → get_or coeffs place 0 ≡ 1
+      → combination_of s coeffs (set blocks place (plus_scaled (combination_of s coeffs blocks) 1 payload)) ≡ payload
+  pub kept : (s place : ℕ) (coeffs block : List ℕ) (blocks : List (List ℕ))
+      → place < length blocks → get_or blocks place [] ≡ replicate s 0 → get_or coeffs place 0 ≡ 0
+      → combination_of s coeffs (set blocks place block) ≡ combination_of s coeffs blocks
 
 module _ (k s : ℕ) (rows : List Packet) (are : AreRows k s rows) where
   pub row_at : (i : ℕ) (d : Packet) → i < length rows → StandsFor k s (take i are.packets) (take i rows) (get_or are.packets i d) (get_or rows i d)
@@ -49,9 +60,9 @@ module _ (k s : ℕ) (rows : List Packet) (are : AreRows k s rows) where
     true_to = λ j d l. solved.true_to j d (omega arith) l;
   }
 
-  pub solved_more : CombinationLaws → SolvingLaws → (at : ℕ) (row : Packet) (blocks : List (List ℕ)) → at < length rows → row ≡ get_or rows at row → IsSolvedFrom k s rows (suc at) blocks
+  pub solved_more : HasBlockLaws → (at : ℕ) (row : Packet) (blocks : List (List ℕ)) → at < length rows → row ≡ get_or rows at row → IsSolvedFrom k s rows (suc at) blocks
       → IsSolvedFrom k s rows at (set blocks (pivot_of row) (plus_scaled (combination_of s row.coeffs blocks) 1 row.payload))
-  solved_more combinations solving at row blocks there is solved =
+  solved_more laws at row blocks there is solved =
       let stands : StandsFor k s (take at are.packets) (take at rows) (get_or are.packets at row) row =
       subst (StandsFor k s (take at are.packets) (take at rows) (get_or are.packets at row)) (sym is) (row_at at row there) in
       let place = pivot_of row in
@@ -62,8 +73,8 @@ module _ (k s : ℕ) (rows : List Packet) (are : AreRows k s rows) where
       let none : get_or blocks place [] ≡ replicate s 0 =
       subst (λ r. get_or blocks (pivot_of r) [] ≡ replicate s 0) (sym is) (solved.unknown at row (omega arith) there) in
       let by_block : IsVector s block =
-      subst (IsVector s) (combinations.first s 1 row.coeffs row.payload blocks)
-      (combinations.is_vector s (1 ∷ row.coeffs) (row.payload ∷ blocks) (All-cons IsSymbol 1 row.coeffs (lit< tt) stands.fits.coeffs.symbols)
+      subst (IsVector s) (laws.first s 1 row.coeffs row.payload blocks)
+      (laws.is_vector s (1 ∷ row.coeffs) (row.payload ∷ blocks) (All-cons IsSymbol 1 row.coeffs (lit< tt) stands.fits.coeffs.symbols)
       (All-cons (IsVector s) row.payload blocks stands.fits.payload solved.vectors)) in
       record {
         count = length-set blocks place block ∙ count;
@@ -72,11 +83,11 @@ module _ (k s : ℕ) (rows : List Packet) (are : AreRows k s rows) where
             let cases : (at ≡ j) ⊎ (at < j) = grind arith in
             ⊎_elim
             (λ e. subst (IsTrueTo s (set blocks place block)) (same j d e l)
-            (solving.known s place row.coeffs row.payload blocks stands.fits.coeffs.symbols stands.fits.payload solved.vectors below none stands.one_at_pivot))
+            (laws.known s place row.coeffs row.payload blocks stands.fits.coeffs.symbols stands.fits.payload solved.vectors below none stands.one_at_pivot))
             (λ later.
             let clear : get_or (get_or rows j d).coeffs place 0 ≡ 0 =
             subst (λ r. get_or (get_or rows j d).coeffs (pivot_of r) 0 ≡ 0) (sym (same at d refl there)) (cleared_at at j d later l) in
-            solving.kept s place (get_or rows j d).coeffs block blocks below none clear ∙ solved.true_to j d (omega arith) l)
+            laws.kept s place (get_or rows j d).coeffs block blocks below none clear ∙ solved.true_to j d (omega arith) l)
             cases;
         unknown = λ j d h l.
             let pivot = pivot_of (get_or rows j d) in
@@ -106,26 +117,26 @@ module _ (k s : ℕ) (rows : List Packet) (are : AreRows k s rows) where
   as_long at row blocks some most is solved =
       subst (λ n. All (IsVector n) blocks) (sym (row_stands at row some most is).fits.payload.count) solved.vectors
 
-  pub has_pivot : (at : ℕ) (row : Packet) (coeffs : List ℕ) → 0 < at → at ≤ length rows → row ≡ get_or rows (at - 1) row
-      → coeffs ≡ row.coeffs → coeffs ≡ replicate (length coeffs) 0 → ⊥
-  has_pivot at row coeffs some most is same none =
+  pub has_pivot : (at : ℕ) (row : Packet) → 0 < at → at ≤ length rows → row ≡ get_or rows (at - 1) row
+      → row.coeffs ≡ replicate (length row.coeffs) 0 → ⊥
+  has_pivot at row some most is none =
       let stands = row_stands at row some most is in
       let place = pivot_of row in
       let count = stands.fits.coeffs.count in
       let below = stands.pivot_below in
       let e : ◌≡◌ {A = ℕ} 0 1 =
-      sym (get_or-replicate (length coeffs) place 0 0 (omega (arith, ap length same))) ∙ ap (λ v. get_or v place 0) (sym none ∙ same) ∙ stands.one_at_pivot in
+      sym (get_or-replicate (length row.coeffs) place 0 0 (omega arith)) ∙ ap (λ v. get_or v place 0) (sym none) ∙ stands.one_at_pivot in
       absurd (omega arith)
 
-  pub solved_step : CombinationLaws → SolvingLaws → (at pivot : ℕ) (row : Packet) (coeffs block : List ℕ) (blocks after : List (List ℕ)) → 0 < at → at ≤ length rows
-      → row ≡ get_or rows (at - 1) row → IsSolvedFrom k s rows at blocks → coeffs ≡ row.coeffs → pivot ≡ first_nonzero coeffs
+  pub solved_step : HasBlockLaws → (at pivot : ℕ) (row : Packet) (block : List ℕ) (blocks after : List (List ℕ)) → 0 < at → at ≤ length rows
+      → row ≡ get_or rows (at - 1) row → IsSolvedFrom k s rows at blocks → pivot ≡ pivot_of row
       → block ≡ plus_scaled (combination_of (length row.payload) row.coeffs blocks) 1 row.payload → after ≡ set blocks pivot block
       → IsSolvedFrom k s rows (at - 1) after
-  solved_step combinations solving at pivot row coeffs block blocks after some most is solved same first told written =
+  solved_step laws at pivot row block blocks after some most is solved first told written =
       let stands = row_stands at row some most is in
       let before : at ≡ suc (at - 1) = omega arith in
       let block_is : block ≡ plus_scaled (combination_of s row.coeffs blocks) 1 row.payload =
       told ∙ ap (λ n. plus_scaled (combination_of n row.coeffs blocks) 1 row.payload) stands.fits.payload.count in
       subst (IsSolvedFrom k s rows (at - 1))
-      (sym (written ∙ ap (λ p. set blocks p block) (first ∙ ap first_nonzero same) ∙ ap (set blocks (pivot_of row)) block_is))
-      (solved_more combinations solving (at - 1) row blocks (omega arith) is (subst (λ n. IsSolvedFrom k s rows n blocks) before solved))
+      (sym (written ∙ ap (λ p. set blocks p block) first ∙ ap (set blocks (pivot_of row)) block_is))
+      (solved_more laws (at - 1) row blocks (omega arith) is (subst (λ n. IsSolvedFrom k s rows n blocks) before solved))

@@ -1,11 +1,20 @@
 -- Columns marked as missing until a row has its pivot there.
-use Rattle.std.proofs.Common.{◌≡◌, ◌↔◌, ℕ, zero, suc, ◌+◌, ◌<◌, Bool, true, false, not, eqb, List, [], ◌∷◌, length, get_or, refl, sym, ap, ◌∙◌, subst, arith}
+use Rattle.std.proofs.Common.{◌≡◌, ◌≢◌, ◌↔◌, ℕ, zero, suc, ◌+◌, ◌<◌, Bool, true, false, not, eqb, List, [], ◌∷◌, length, get_or, replicate, refl, sym, ap, ◌∙◌, subst, arith}
 use Rattle.std.specs.List.{Contains, filter, list_any, range_with_len}
 use Rattle.std.proofs.lemmas.Bool.{true≢false}
+use Rattle.std.proofs.lemmas.List.{get_or-replicate}
+use Rattle.std.proofs.lemmas.List.Sums.{passes_at_first}
 use Rattle.std.proofs.lemmas.List.Elements.{All-contains, filter_passes}
 use Rattle.std.proofs.lemmas.List.FromFn.{length-range_with_len, get_or-range_with_len}
 use Rattle.linear_spec.specs.declared.packet.Packet.{Packet}
-use Rattle.linear_spec.specs.Rows.{missing_columns_of, pivot_of}
+use Rattle.linear_spec.specs.Rows.{missing_columns_of, pivot_of, first_nonzero}
+
+-- where a symbol is not 0, not all are
+pub not_all_zero : (v : List ℕ) → first_nonzero v < length v → v ≢ replicate (length v) 0
+not_all_zero v below zeros =
+    let passes : not (eqb (get_or v (first_nonzero v) 0) 0) ≡ true = passes_at_first (λ symbol. not (eqb symbol 0)) v 0 below in
+    let none = ap (λ u. not (eqb (get_or u (first_nonzero v) 0) 0)) zeros ∙ ap (λ symbol. not (eqb symbol 0)) (get_or-replicate (length v) (first_nonzero v) 0 0 below) in
+    cc
 
 -- whether no row has its pivot at the column
 abbrev pub is_missing : List Packet → ℕ → Bool

@@ -1,4 +1,3 @@
 pub mod BackSubstitution
 pub mod Basis
 pub mod Columns
-pub mod Solutions

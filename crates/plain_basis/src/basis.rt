@@ -1,17 +1,16 @@
+//! The basis itself: what it records, and how it answers.
 ghost use Rattle.std.specs.Prelude.{◌≡◌, ◌++◌, [], length, IfOk, OnErr};
 ghost use Rattle.std.specs.List.{All};
 ghost use Rattle.linear_spec.specs.Packet.{Fits, coefficients_of};
 ghost use Rattle.linear_spec.specs.SequentialBasis.{IsCaseReply, recorded};
-ghost use Rattle.linear_spec.specs.Solving.{Solves};
+ghost use Rattle.linear_spec.specs.Solving.{Solves, IsOnlySolution};
 ghost use Rattle.linear_spec.specs.Span.{HasRank};
 ghost use Rattle.plain_basis.specs.Columns.{TellMissingColumns};
-ghost use Rattle.plain_basis.specs.Solutions.{IsOnlySolution};
 
 use crate::missing::mark_missing;
-use crate::reduce::{inverse_of_first, is_zero, reduce, scale};
 use crate::solve::solve_rows;
-use gf16::Memory;
-use linear_spec::{List, Packet, Reply, SymVec};
+use gf16::{Memory, Plain};
+use linear_spec::{Case, List, Packet, Reply, SymVec, examine};
 use std::alloc::Global;
 use std::marker::Model;
 
@@ -61,26 +60,18 @@ impl PlainBasis {
     {
         linear_spec::laws::rows();
         linear_spec::laws::decision();
-        gf16::laws::field();
         self.packets.reserve(1)?;
         self.rows.reserve(1)?;
-        let mut row = packet.copy(self.alloc)?;
-        reduce(&mut row, &self.rows);
+        let case = examine::<Plain>(self.alloc, &self.rows, &packet)?;
         let front = self.packets.len() as u16;
-        match inverse_of_first(row.coeffs.as_slice()) {
-            Some(inverse) => {
-                scale(&mut row, inverse);
+        match case {
+            Case::Fresh(row) => {
                 self.packets.put(packet);
                 self.rows.put(row);
                 Ok(Reply::Innovative { at: front })
             }
-            None => {
-                if is_zero(row.payload.as_slice()) {
-                    Ok(Reply::NotInnovative { front })
-                } else {
-                    Ok(Reply::Conflicting { front })
-                }
-            }
+            Case::Within => Ok(Reply::NotInnovative { front }),
+            Case::Conflicting => Ok(Reply::Conflicting { front }),
         }
     }
 

@@ -4,7 +4,6 @@
 
 mod basis;
 mod missing;
-mod reduce;
 mod solve;
 
 pub use basis::PlainBasis;

@@ -3,7 +3,6 @@ ghost use Rattle.std.specs.Prelude.{◌≡◌, ◌<◌, ◌↔◌, ℕ, false, l
 ghost use Rattle.std.specs.List.{All, Contains};
 ghost use Rattle.linear_spec.specs.Rows.{pivot_of, missing_columns_of};
 
-use crate::reduce::place_of_first;
 use linear_spec::{List, Packet};
 
 /// Writes for each column whether no row has its pivot there.
@@ -24,7 +23,7 @@ fn unmark_pivot(row: &Packet, out: &mut [bool])
     requires { pivot_of row.now < length row.now.coeffs }
     ensures { out.new ≡ slice_set out.old (pivot_of row.now) false }
 {
-    if let Some(pivot) = place_of_first(row.coeffs.as_slice()) {
+    if let Some(pivot) = row.pivot() {
         unmark(pivot, out);
     }
 }

@@ -4,24 +4,25 @@ ghost use Rattle.std.specs.List.{All};
 ghost use Rattle.gf16.specs.Sums.{plus_scaled};
 ghost use Rattle.linear_spec.specs.Symbols.{IsVector};
 ghost use Rattle.linear_spec.specs.Combination.{combination_of};
-ghost use Rattle.linear_spec.specs.Solving.{Solves};
+ghost use Rattle.linear_spec.specs.Solving.{Solves, IsOnlySolution};
 ghost use Rattle.plain_basis.specs.BackSubstitution.{AreRows};
 
-use crate::reduce::{add_scaled, place_of_first};
-use gf16::{Gf, Memory};
+use gf16::{Gf, Memory, add_scaled};
 use linear_spec::{List, Packet, SymVec};
 use std::alloc::Global;
 
-/// K blocks of S symbols that solve rows, each of K coefficients and S symbols, which stand for some packets in their order.
-/// There may be fewer than K rows. The blocks take memory of `alloc`.
+/// The K blocks of S symbols that solve K rows, each of K coefficients and S symbols, which stand for some packets in their
+/// order: there are no others. The blocks take memory of `alloc`.
 pub fn solve_rows(
     alloc: Global,
     k: usize,
     s: usize,
     rows: &List<Packet>,
 ) -> Result<List<SymVec>, Memory>
-    requires { AreRows k s rows.now.items }
-    ensures { IfOk result (λ blocks. Solves k s rows.now.items blocks.items) }
+    requires rows { AreRows k s rows.now.items }
+    requires full { length rows.now.items ≡ k }
+    ensures solves { IfOk result (λ blocks. Solves k s rows.now.items blocks.items) }
+    ensures only { IfOk result (λ blocks. IsOnlySolution k s rows.now.items blocks.items) }
 {
     linear_spec::laws::combinations();
     linear_spec::laws::solving();
@@ -30,7 +31,7 @@ pub fn solve_rows(
     for at in (0..rows.len()).rev() {
         let row = &rows[at];
         let block = block_of(alloc, row, &blocks)?;
-        if let Some(pivot) = place_of_first(row.coeffs.as_slice()) {
+        if let Some(pivot) = row.pivot() {
             put_block(&mut blocks, pivot, block);
         }
     }

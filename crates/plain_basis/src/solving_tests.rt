@@ -1,3 +1,4 @@
+//! Tests of solving, and packets for tests.
 ghost use Rattle.std.specs.Prelude.{◌≡◌, ◌<◌, length, IfOk};
 ghost use Rattle.std.specs.List.{All};
 ghost use Rattle.linear_spec.specs.Packet.{Fits};
@@ -15,11 +16,7 @@ const SYMBOLS: u16 = 512;
 pub fn packet(alloc: Global, coeffs: &[u16], payload: &[u16]) -> Result<Packet, Memory>
     ensures { IfOk result (λ packet. Fits (length coeffs.now) (length payload.now) packet) }
 {
-    let packet = Packet {
-        generation: 0,
-        coeffs: SymVec::from_slice(alloc, coeffs)?,
-        payload: SymVec::from_slice(alloc, payload)?,
-    };
+    let packet = Packet::from_slices(alloc, 0, coeffs, payload)?;
     linear_spec::laws::packet_fits(&packet);
     Ok(packet)
 }
@@ -69,8 +66,7 @@ fn dense_packet(alloc: Global, source: &List<Packet>, state: &mut u32) -> Result
     requires fit { All (Fits 64 512) source.now.items }
 {
     let coeffs = random_symbols(alloc, BLOCKS, state)?;
-    let zeros = SymVec::zeros(alloc, SYMBOLS as usize)?;
-    let mut dense = packet(alloc, coeffs.as_slice(), zeros.as_slice())?;
+    let mut dense = Packet::zeros(alloc, BLOCKS as usize, SYMBOLS as usize, 0)?;
     combine(coeffs.as_slice(), source, &mut dense);
     Ok(dense)
 }

@@ -1,3 +1,4 @@
+//! Tests of the answers and of the columns that are missing.
 use super::*;
 use linear_spec::Reply;
 use solving_tests::packet;

@@ -4,8 +4,7 @@ use Rattle.std.proofs.lemmas.List.{length-map}
 use Rattle.std.proofs.lemmas.Result.{IfOk-weaker}
 use Rattle.linear_spec.specs.declared.record.Record.{Record}
 use Rattle.linear_spec.specs.SequentialBasis.{packets_of}
-use Rattle.linear_spec.specs.Solving.{Solves}
-use Rattle.plain_basis.specs.Solutions.{IsOnlySolution}
+use Rattle.linear_spec.specs.Solving.{Solves, IsOnlySolution}
 use Rattle.back_subst.specs.Shape.{payload_length}
 use Rattle.back_subst.proofs.Shapes.{length_at_first}
 use Rattle.back_subst.proofs.solving.solve.Goals as goal
@@ -22,7 +21,7 @@ returns-clause-solves g c =
     ∙ sym (length_at_first records c.index-records-0.result c.requires.some) in
     let told =
     subst (λ (n : ℕ). IfOk c.solve_rows.result (λ blocks. Solves n s rows blocks.items)) (ap length c.as_slice-records.ensures)
-    (subst (λ (n : ℕ). IfOk c.solve_rows.result (λ blocks. Solves (length c.as_slice-records.result.now) n rows blocks.items)) long c.solve_rows.ensures) in
+    (subst (λ (n : ℕ). IfOk c.solve_rows.result (λ blocks. Solves (length c.as_slice-records.result.now) n rows blocks.items)) long c.solve_rows.ensures.solves) in
     IfOk-weaker c.solve_rows.result (λ blocks. Solves k s rows blocks.items) (λ blocks. Solves k s (packets_of records) blocks.items)
     (λ blocks solve. c.solving.ensures.rows k s (packets_of records) rows blocks.items c.requires.fit c.requires.rows solve) told
 

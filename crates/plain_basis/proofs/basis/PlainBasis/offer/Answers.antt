@@ -1,23 +1,17 @@
-use Rattle.std.proofs.Common.{rules, ◌≡◌, ◌∷◌, [], ◌++◌, length, replicate, get_or, true, false, refl, sym, ap, ◌∙◌, subst, arith}
-use Rattle.gf16.specs.Field.{product_of}
+use Rattle.std.proofs.Common.{◌≡◌, ◌∷◌, [], ◌++◌, length, sym, ap, ◌∙◌, subst, arith}
+use Rattle.linear_spec.specs.declared.cases.Case.TheVariants.{Fresh, Within, Conflicting}
 use Rattle.linear_spec.specs.Cases.{IsFresh, IsWithin, IsConflicting}
 use Rattle.linear_spec.specs.Packet.{Fits}
-use Rattle.linear_spec.specs.Rows.{first_nonzero}
-use Rattle.plain_basis.specs.Basis.{Basis, IsSound}
-use Rattle.plain_basis.proofs.Offers.{rows_fit_vector, pivots_below_vector, reduced_parts, is_fresh, sound_after, is_within, is_conflicting}
+use Rattle.linear_spec.specs.Rows.{StandsFor}
+use Rattle.plain_basis.specs.Basis.{IsSound}
+use Rattle.plain_basis.proofs.Offers.{rows_for, told, sound_after}
 use Rattle.plain_basis.proofs.basis.PlainBasis.offer.Goals as goal
 
-pub reduce-requires-clause-fit : goal.reduce-requires-clause-fit
-reduce-requires-clause-fit c =
+pub examine-requires : goal.examine-requires
+examine-requires c =
     let inside = c.self.inside in
-    rows_fit_vector inside.k inside.s inside.packets.items inside.rows.items c.reserve-2.new.self.items c.args.packet c.in_ok-row.row
-    c.self.invariant (subst (λ b. Fits b.k b.s c.args.packet) (sym c.self.view_is) c.requires) c.reserve-2.ensures.items c.in_ok-row.ensures
-
-pub reduce-requires-clause-pivots : goal.reduce-requires-clause-pivots
-reduce-requires-clause-pivots c =
-    let inside = c.self.inside in
-    pivots_below_vector inside.k inside.s inside.packets.items inside.rows.items c.reserve-2.new.self.items c.args.packet c.in_ok-row.row
-    c.self.invariant (subst (λ b. Fits b.k b.s c.args.packet) (sym c.self.view_is) c.requires) c.reserve-2.ensures.items c.in_ok-row.ensures
+    rows_for inside.k inside.s inside.packets.items inside.rows.items c.self.invariant c.reserve-2.new.self.items c.args.packet
+    (subst (λ b. Fits b.k b.s c.args.packet) (sym c.self.view_is) c.requires) c.reserve-2.ensures.items
 
 pub overflow_cast-front : goal.overflow_cast-front
 overflow_cast-front c =
@@ -29,64 +23,42 @@ overflow_cast-front c =
     let same = ap length c.reserve.ensures.items in
     omega (arith, c.len-front.ensures)
 
-pub invariant_of-self-in-Some : goal.invariant_of-self-in-Some
-invariant_of-self-in-Some c =
+pub invariant_of-self-in-Fresh : goal.invariant_of-self-in-Fresh
+invariant_of-self-in-Fresh c =
     let inside = c.self.inside in
-    let basis : Basis = record { k = inside.k; s = inside.s; packets = inside.packets.items } in
-    let reduced = reduced_parts basis inside.rows.items c.reserve-2.new.self.items c.args.packet c.in_ok-row.row c.reduce.new.vector
-    c.self.invariant (subst (λ b. Fits b.k b.s c.args.packet) (sym c.self.view_is) c.requires) c.reserve-2.ensures.items c.in_ok-row.ensures
-    c.reduce.ensures.vector c.reduce.ensures.coeffs c.reduce.ensures.payload in
-    let after = sound_after basis inside.rows.items c.args.packet c.reduce.new.vector.coeffs c.reduce.new.vector.payload reduced
-    c.decision.ensures c.in-Some.inverse.0 c.scale.new.vector (search rules)
-    (subst (λ v. product_of (get_or v (first_nonzero v) 0) c.in-Some.inverse.0 ≡ 1) c.as_slice.ensures c.in-Some.ensures) c.scale.ensures.coeffs c.scale.ensures.payload in
+    let fits = subst (λ b. Fits b.k b.s c.args.packet) (sym c.self.view_is) c.requires in
+    let case : IsFresh inside.k inside.packets.items c.args.packet × StandsFor inside.k inside.s inside.packets.items inside.rows.items c.args.packet c.in-Fresh.row =
+    told inside.k inside.s inside.packets.items inside.rows.items c.self.invariant c.reserve-2.new.self.items c.args.packet c.in_ok-case.case (Fresh c.in-Fresh.row)
+    fits c.reserve-2.ensures.items c.in-Fresh.is c.in_ok-case.ensures in
     let packets : c.put.new.self.items ≡ inside.packets.items ++ c.args.packet ∷ [] = c.put.ensures.items ∙ ap (λ ps. ps ++ c.args.packet ∷ []) c.reserve.ensures.items in
-    let rows : c.put-in-Some.new.self.items ≡ inside.rows.items ++ c.scale.new.vector ∷ [] = c.put-in-Some.ensures.items ∙ ap (λ rs. rs ++ c.scale.new.vector ∷ []) c.reserve-2.ensures.items in
-    subst (λ ps. IsSound inside.k inside.s ps c.put-in-Some.new.self.items) (sym packets)
-    (subst (IsSound inside.k inside.s (inside.packets.items ++ c.args.packet ∷ [])) (sym rows) after)
+    let rows : c.put-in-Fresh.new.self.items ≡ inside.rows.items ++ c.in-Fresh.row ∷ [] = c.put-in-Fresh.ensures.items ∙ ap (λ rs. rs ++ c.in-Fresh.row ∷ []) c.reserve-2.ensures.items in
+    subst (λ ps. IsSound inside.k inside.s ps c.put-in-Fresh.new.self.items) (sym packets)
+    (subst (IsSound inside.k inside.s (inside.packets.items ++ c.args.packet ∷ [])) (sym rows)
+    (sound_after inside.k inside.s inside.packets.items inside.rows.items c.self.invariant c.decision.ensures.joins c.args.packet c.in-Fresh.row fits case.1))
 
-pub returns-in-Some-clause-reply : goal.returns-in-Some-clause-reply
-returns-in-Some-clause-reply c =
+pub returns-in-Fresh-clause-reply : goal.returns-in-Fresh-clause-reply
+returns-in-Fresh-clause-reply c =
     let inside = c.self.inside in
-    let basis : Basis = record { k = inside.k; s = inside.s; packets = inside.packets.items } in
-    let reduced = reduced_parts basis inside.rows.items c.reserve-2.new.self.items c.args.packet c.in_ok-row.row c.reduce.new.vector
-    c.self.invariant (subst (λ b. Fits b.k b.s c.args.packet) (sym c.self.view_is) c.requires) c.reserve-2.ensures.items c.in_ok-row.ensures
-    c.reduce.ensures.vector c.reduce.ensures.coeffs c.reduce.ensures.payload in
+    let case : IsFresh inside.k inside.packets.items c.args.packet × StandsFor inside.k inside.s inside.packets.items inside.rows.items c.args.packet c.in-Fresh.row =
+    told inside.k inside.s inside.packets.items inside.rows.items c.self.invariant c.reserve-2.new.self.items c.args.packet c.in_ok-case.case (Fresh c.in-Fresh.row)
+    (subst (λ b. Fits b.k b.s c.args.packet) (sym c.self.view_is) c.requires) c.reserve-2.ensures.items c.in-Fresh.is c.in_ok-case.ensures in
     let front : c.len-front.result ≡ length inside.packets.items = c.len-front.ensures ∙ ap length c.reserve.ensures.items in
-    subst (λ b. IsFresh b.k b.packets c.args.packet × (c.len-front.result ≡ length b.packets)) c.self.view_is (
-      is_fresh basis inside.rows.items c.args.packet c.reduce.new.vector.coeffs c.reduce.new.vector.payload reduced c.field.ensures
-          c.decision.ensures c.in-Some.inverse.0
-          (subst (λ v. product_of (get_or v (first_nonzero v) 0) c.in-Some.inverse.0 ≡ 1) c.as_slice.ensures c.in-Some.ensures),
-      front,
-    )
+    subst (λ b. IsFresh b.k b.packets c.args.packet × (c.len-front.result ≡ length b.packets)) c.self.view_is (case.0, front)
 
-pub returns-then-is_zero-clause-reply : goal.returns-then-is_zero-clause-reply
-returns-then-is_zero-clause-reply c =
+pub returns-in-Within-clause-reply : goal.returns-in-Within-clause-reply
+returns-in-Within-clause-reply c =
     let inside = c.self.inside in
-    let basis : Basis = record { k = inside.k; s = inside.s; packets = inside.packets.items } in
-    let reduced = reduced_parts basis inside.rows.items c.reserve-2.new.self.items c.args.packet c.in_ok-row.row c.reduce.new.vector
-    c.self.invariant (subst (λ b. Fits b.k b.s c.args.packet) (sym c.self.view_is) c.requires) c.reserve-2.ensures.items c.in_ok-row.ensures
-    c.reduce.ensures.vector c.reduce.ensures.coeffs c.reduce.ensures.payload in
+    let case : IsWithin inside.k inside.s inside.packets.items c.args.packet =
+    told inside.k inside.s inside.packets.items inside.rows.items c.self.invariant c.reserve-2.new.self.items c.args.packet c.in_ok-case.case Within
+    (subst (λ b. Fits b.k b.s c.args.packet) (sym c.self.view_is) c.requires) c.reserve-2.ensures.items c.in-Within.is c.in_ok-case.ensures in
     let front : c.len-front.result ≡ length inside.packets.items = c.len-front.ensures ∙ ap length c.reserve.ensures.items in
-    subst (λ b. IsWithin b.k b.s b.packets c.args.packet × (c.len-front.result ≡ length b.packets)) c.self.view_is (
-      is_within basis inside.rows.items c.args.packet c.reduce.new.vector.coeffs c.reduce.new.vector.payload reduced
-          c.decision.ensures
-          (subst (λ v. v ≡ replicate (length v) 0) c.as_slice.ensures c.in-None.ensures)
-          (subst (λ v. v ≡ replicate (length v) 0) c.as_slice-in-None.ensures (c.if-is_zero.ensures.0 refl)),
-      front,
-    )
+    subst (λ b. IsWithin b.k b.s b.packets c.args.packet × (c.len-front.result ≡ length b.packets)) c.self.view_is (case, front)
 
-pub returns-clause-reply : goal.returns-clause-reply
-returns-clause-reply c =
+pub returns-in-Conflicting-clause-reply : goal.returns-in-Conflicting-clause-reply
+returns-in-Conflicting-clause-reply c =
     let inside = c.self.inside in
-    let basis : Basis = record { k = inside.k; s = inside.s; packets = inside.packets.items } in
-    let reduced = reduced_parts basis inside.rows.items c.reserve-2.new.self.items c.args.packet c.in_ok-row.row c.reduce.new.vector
-    c.self.invariant (subst (λ b. Fits b.k b.s c.args.packet) (sym c.self.view_is) c.requires) c.reserve-2.ensures.items c.in_ok-row.ensures
-    c.reduce.ensures.vector c.reduce.ensures.coeffs c.reduce.ensures.payload in
+    let case : IsConflicting inside.k inside.s inside.packets.items c.args.packet =
+    told inside.k inside.s inside.packets.items inside.rows.items c.self.invariant c.reserve-2.new.self.items c.args.packet c.in_ok-case.case Conflicting
+    (subst (λ b. Fits b.k b.s c.args.packet) (sym c.self.view_is) c.requires) c.reserve-2.ensures.items c.in-Conflicting.is c.in_ok-case.ensures in
     let front : c.len-front.result ≡ length inside.packets.items = c.len-front.ensures ∙ ap length c.reserve.ensures.items in
-    subst (λ b. IsConflicting b.k b.s b.packets c.args.packet × (c.len-front.result ≡ length b.packets)) c.self.view_is (
-      is_conflicting basis inside.rows.items c.args.packet c.reduce.new.vector.coeffs c.reduce.new.vector.payload reduced
-          c.decision.ensures
-          (subst (λ v. v ≡ replicate (length v) 0) c.as_slice.ensures c.in-None.ensures)
-          (λ zeros. let never : false ≡ true = c.if-is_zero.ensures.1 (subst (λ v. v ≡ replicate (length v) 0) (sym c.as_slice-in-None.ensures) zeros) in cc),
-      front,
-    )
+    subst (λ b. IsConflicting b.k b.s b.packets c.args.packet × (c.len-front.result ≡ length b.packets)) c.self.view_is (case, front)

@@ -1,8 +1,7 @@
 use Rattle.std.proofs.Common.{◌≡◌, length, sym, subst}
 use Rattle.std.specs.Result.{IfOk}
 use Rattle.std.proofs.lemmas.Result.{IfOk-weaker}
-use Rattle.linear_spec.specs.Solving.{Solves}
-use Rattle.plain_basis.specs.Solutions.{IsOnlySolution}
+use Rattle.linear_spec.specs.Solving.{Solves, IsOnlySolution}
 use Rattle.plain_basis.proofs.basis.PlainBasis.solve.Goals as goal
 
 -- what solves the rows solves the packets
@@ -13,7 +12,7 @@ returns-clause-solves c =
     subst (λ basis. IfOk c.solve_rows.result (λ blocks. Solves basis.k basis.s basis.packets blocks.items)) c.self.view_is
     (IfOk-weaker c.solve_rows.result (λ blocks. Solves b.k b.s b.rows.items blocks.items) (λ blocks. Solves b.k b.s b.packets.items blocks.items)
     (λ blocks solve. c.solving.ensures.rows b.k b.s b.packets.items b.rows.items blocks.items sound.fit sound.stand solve)
-    c.solve_rows.ensures)
+    c.solve_rows.ensures.solves)
 
 -- and nothing else does
 pub returns-clause-only : goal.returns-clause-only
@@ -26,4 +25,4 @@ returns-clause-only c =
     (λ blocks solve others too.
     c.solving.ensures.only b.k b.s b.packets.items b.rows.items blocks.items others sound.fit sound.stand full
     (c.solving.ensures.rows b.k b.s b.packets.items b.rows.items blocks.items sound.fit sound.stand solve) too)
-    c.solve_rows.ensures)
+    c.solve_rows.ensures.solves)

@@ -1,6 +1,0 @@
-use Rattle.plain_basis.proofs.Reduction.{inverse_at}
-use Rattle.plain_basis.proofs.reduce.inverse_of_first.Goals as goal
-
-pub returns : goal.returns
-returns c =
-    inverse_at c.args.symbols.now c.in_ok-place.place c.inv.result c.in_ok-place.ensures.0 c.in_ok-place.ensures.1 c.inv.ensures.none.0 c.inv.ensures.value
