@@ -8,7 +8,7 @@ mod order;
 mod trace;
 
 pub use entry::Entry;
-pub use machine::{Core, replay};
+pub use machine::{Core, replay, replay_if_fit};
 pub use order::merge;
 pub use trace::{Answer, BasisTrace, Call, CallerOffers, CallerTrace, Event, Replayed};
 

@@ -1,4 +1,4 @@
-ghost use Rattle.std.specs.Prelude.{◌≡◌, ◌<◌, ◌≤◌, ◌^◌, ◌==◌, ℕ, [], ◌∷◌, ◌++◌, count_by, length, IfOk, OnOk, OnErr};
+ghost use Rattle.std.specs.Prelude.{◌≡◌, ◌<◌, ◌≤◌, ◌^◌, ◌==◌, ℕ, [], ◌∷◌, ◌++◌, count_by, length, IfOk, IsTrue, MatchOption, OnOk, OnErr};
 ghost use Rattle.std.specs.List.{All};
 ghost use Rattle.linear_spec.specs.declared.reply.Reply.TheVariants.{FailedCheck};
 ghost use Rattle.linear_spec.specs.Packet.{Fits};
@@ -199,4 +199,48 @@ pub fn replay(alloc: Global, k: u16, s: u16, events: &List<Event>) -> Result<Rep
         answers,
         records: core.records,
     })
+}
+
+/// Replays events that may not fit: `None` where one does not. They are 2^32 at most.
+pub fn replay_if_fit(
+    alloc: Global,
+    k: u16,
+    s: u16,
+    events: &List<Event>,
+) -> Result<Option<Replayed>, Memory>
+    requires { length events.now.items ≤ 2 ^ 32 }
+    ensures { IfOk result (λ found. MatchOption found (¬ All (FitsEvent k s) events.now.items)
+        (λ replayed. All (FitsEvent k s) events.now.items × IsReplay k s events.now.items replayed.answers.items replayed.records.items)) }
+{
+    if !all_fit(k, s, events.as_slice()) {
+        return Ok(None);
+    }
+    Ok(Some(replay(alloc, k, s, events)?))
+}
+
+/// Whether all events fit.
+fn all_fit(k: u16, s: u16, events: &[Event]) -> bool
+    ensures fit { IsTrue result → All (FitsEvent k s) events.now }
+    ensures found { All (FitsEvent k s) events.now → IsTrue result }
+{
+    for event in events {
+        if !fits(k, s, event) {
+            return false;
+        }
+    }
+    true
+}
+
+/// Whether the packet of an offer has these lengths. A draw has no packet.
+fn fits(k: u16, s: u16, event: &Event) -> bool
+    ensures fit { IsTrue result → FitsEvent k s event.now }
+    ensures found { FitsEvent k s event.now → IsTrue result }
+{
+    match event {
+        Event::Offer { packet, .. } => {
+            linear_spec::laws::packet_fits(packet);
+            packet.coeffs.len() == usize::from(k) && packet.payload.len() == usize::from(s)
+        }
+        Event::Draw { .. } => true,
+    }
 }

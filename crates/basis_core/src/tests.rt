@@ -1,23 +1,14 @@
-ghost use Rattle.std.specs.Prelude.{◌≡◌, ◌≤◌, ◌^◌, length, IfOk, IsTrue};
-ghost use Rattle.std.specs.List.{All};
-ghost use Rattle.linear_spec.specs.Packet.{Fits};
-ghost use Rattle.basis_core.specs.Machine.{FitsEvent};
+//! Tests of the merge of kept calls and of its replay.
 
 use super::*;
 use gf16::Memory;
-use linear_spec::{Drawn, List, Packet, Record, Reply, SymVec};
+use linear_spec::{Drawn, List, Packet, Record, Reply};
 use std::alloc::Global;
 use std::test::Fail;
 
 /// A packet of two coefficients and one payload symbol.
 fn packet(alloc: Global, coeffs: [u16; 2], symbol: u16) -> Result<Packet, Memory> {
-    let coeffs = SymVec::from_slice(alloc, &coeffs)?;
-    let payload = SymVec::from_slice(alloc, &[symbol])?;
-    Ok(Packet {
-        generation: 0,
-        coeffs,
-        payload,
-    })
+    Packet::from_slices(alloc, 0, &coeffs, &[symbol])
 }
 
 /// The trace of one caller, from its tags and answers.
@@ -35,38 +26,12 @@ fn trace(alloc: Global, number: u32, calls: &[(u64, Answer)]) -> Result<CallerTr
     })
 }
 
-fn fits(k: u16, s: u16, event: &Event) -> bool
-    ensures { IsTrue result → FitsEvent k s event.now }
-{
-    match event {
-        Event::Offer { packet, .. } => {
-            linear_spec::laws::packet_fits(packet);
-            packet.coeffs.len() == k as usize && packet.payload.len() == s as usize
-        }
-        Event::Draw { .. } => true,
-    }
-}
-
-fn all_fit(k: u16, s: u16, events: &[Event]) -> bool
-    ensures { IsTrue result → All (FitsEvent k s) events.now }
-{
-    for event in events {
-        if !fits(k, s, event) {
-            return false;
-        }
-    }
-    true
-}
-
 /// Replays events that are found to fit.
 fn replayed(alloc: Global, events: &List<Event>) -> Result<Replayed, Fail> {
     if events.len() > 1000 {
         return Err("too many events")?;
     }
-    if !all_fit(2, 1, events.as_slice()) {
-        return Err("an event that does not fit")?;
-    }
-    Ok(replay(alloc, 2, 1, events)?)
+    Ok(replay_if_fit(alloc, 2, 1, events)?.ok_or("an event that does not fit")?)
 }
 
 /// The packets of a caller's offers, each by its coefficients and its symbol, and the checks that they failed.

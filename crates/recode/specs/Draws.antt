@@ -3,7 +3,7 @@
 -- key: 32 bytes. link: the number of a link, whose draws have a stream of words of their own. q: the number of a draw on its
 -- link, from 0. front: the packets that there are to combine. k, s: the numbers of coefficients and of payload symbols of each
 -- packet. generation: that of them all. coded: how many draws a link makes of each generation.
-use Rattle.std.specs.Prelude.{ℕ, ◌+◌, ◌-◌, ◌*◌, ◌%◌, ◌^◌, ◌==◌, if◌then◌else◌, List, map, length, replicate, slice_index, slice_set}
+use Rattle.std.specs.Prelude.{ℕ, ◌+◌, ◌-◌, ◌*◌, ◌%◌, ◌^◌, ◌==◌, if◌then◌else◌, List, map, length, slice_index, slice_set}
 use Rattle.std.specs.List.{list_all, range_with_len}
 use Rattle.rand_chacha.specs.ChaCha.{word_at, key_of}
 use Rattle.gf16.specs.Field.{sum_of}
@@ -57,10 +57,6 @@ polluted_packet key link q packet =
 -- the answer of a draw over n packets
 abbrev pub drawn_over : ℕ → Drawn
 drawn_over n = if n == 0 then Nothing else Sent n
-
--- the packet of zeros
-abbrev pub zeros_of : ℕ → ℕ → ℕ → Packet
-zeros_of k s generation = record { generation = generation; coeffs = replicate k 0; payload = replicate s 0 }
 
 -- what a draw leaves in a packet that was handed in: the packet drawn, or at Nothing the packet as it was
 abbrev pub left_by : Drawn → Packet → Packet → Packet

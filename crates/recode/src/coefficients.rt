@@ -1,4 +1,4 @@
-//! The coefficients of draws, from random words.
+//! The coefficients of draws, from random words: those of ChaCha20 (RFC 8439), with 64 bits for the counter and 64 for the stream.
 ghost use Rattle.std.specs.Prelude.{◌≡◌, ◌≤◌, ◌+◌, ◌*◌, ◌==◌, length, map};
 ghost use Rattle.std.specs.List.{list_all, range_with_len};
 ghost use Rattle.rand_chacha.specs.ChaCha.{key_of};

@@ -9,7 +9,6 @@ ghost use Rattle.shared_basis.specs.Passes.{HasCalled, HasKept, HasLooked, IsFor
 ghost use Rattle.recode.specs.Draws.{drawn_packet, left_by, polluted_packet, tag_of_draw};
 
 use crate::coefficients::draw_coefficients;
-use crate::plain::clear;
 use crate::pollution::pollute;
 use gf16::Gf;
 use linear_spec::{Drawn, Packet};
@@ -126,7 +125,7 @@ fn combine_records(
     ensures generation { out.new.generation ≡ out.old.generation }
 {
     linear_spec::laws::combinations();
-    clear(out);
+    out.clear();
     for n in 0..front {
         basis.add_packet(pass, n, Gf(coefficients[usize::from(n)]), out);
     }

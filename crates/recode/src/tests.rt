@@ -1,3 +1,4 @@
+//! Tests of draws over a basis and over a list, against words of RFC 8439 from outside.
 ghost use Rattle.std.specs.Prelude.{◌≡◌, ◌≤◌, IfOk};
 ghost use Rattle.linear_spec.specs.Packet.{Fits};
 ghost use Rattle.shared_basis.specs.Passes.{IsNewPass};
@@ -5,7 +6,7 @@ ghost use Rattle.shared_basis.specs.Passes.{IsNewPass};
 use super::*;
 use generation::Shape;
 use gf16::{Gf, Memory};
-use linear_spec::{Drawn, Equations, List, Packet, SymVec};
+use linear_spec::{Drawn, Equations, List, Packet};
 use shared_basis::{Created, Params, Pass, SharedBasis};
 use std::alloc::Global;
 use std::test::Fail;
@@ -16,11 +17,7 @@ const ZERO_KEY: [u8; 32] = [0; 32];
 fn small_packet(alloc: Global, coefficient: u16, symbol: u16) -> Result<Packet, Memory>
     ensures { IfOk result (λ packet. Fits 1 1 packet × (packet.generation ≡ 0)) }
 {
-    let packet = Packet {
-        generation: 0,
-        coeffs: SymVec::from_slice(alloc, &[coefficient])?,
-        payload: SymVec::from_slice(alloc, &[symbol])?,
-    };
+    let packet = Packet::from_slices(alloc, 0, &[coefficient], &[symbol])?;
     linear_spec::laws::packet_fits(&packet);
     Ok(packet)
 }
@@ -29,11 +26,7 @@ fn small_packet(alloc: Global, coefficient: u16, symbol: u16) -> Result<Packet, 
 fn pair_packet(alloc: Global, coefficients: [u16; 2], symbol: u16) -> Result<Packet, Memory>
     ensures { IfOk result (λ packet. Fits 2 1 packet × (packet.generation ≡ 0)) }
 {
-    let packet = Packet {
-        generation: 0,
-        coeffs: SymVec::from_slice(alloc, &coefficients)?,
-        payload: SymVec::from_slice(alloc, &[symbol])?,
-    };
+    let packet = Packet::from_slices(alloc, 0, &coefficients, &[symbol])?;
     linear_spec::laws::packet_fits(&packet);
     Ok(packet)
 }
@@ -50,14 +43,7 @@ fn small_basis(alloc: Global, k: u16, room: u32) -> Result<(SharedBasis, Pass), 
     ensures checks { IfOk result (λ made. made.0.parameters.equations.value.checks ≡ 0) }
     ensures pass { IfOk result (λ made. IsNewPass made.0 0 room made.1) }
 {
-    let equations = Equations {
-        checks: 0,
-        k,
-        s: 1,
-        generations: 1,
-        weights: SymVec::zeros(alloc, 0)?,
-        sums: SymVec::zeros(alloc, 0)?,
-    };
+    let equations = Equations::without_checks(alloc, k, 1, 1)?;
     let params = Params {
         peer: 0,
         generation: 0,

@@ -10,7 +10,7 @@ ghost use Rattle.shared_basis.specs.Passes.{HasKept, IsPassOf};
 use crate::columns::mark_missing;
 use crate::looking::read_again;
 use crate::{Pass, SharedBasis};
-use gf_lanes::add_scaled;
+use gf_lanes::Lanes;
 use gf16::Gf;
 use linear_spec::Packet;
 use table_rows::{take_packet, take_row};
@@ -43,7 +43,7 @@ impl SharedBasis {
         table_rows::laws::records();
         read_again(&self.table, &mut pass.desk, usize::from(n));
         take_packet(pass.desk.words.as_slice(), &mut pass.desk.row);
-        add_symbols(out, c, &pass.desk.row);
+        out.add_scaled::<Lanes<16>>(c, &pass.desk.row);
     }
 
     /// Writes the row of record `n` into `out`, with the basis's generation.
@@ -69,16 +69,4 @@ impl SharedBasis {
     {
         mark_missing(&self.table, &mut pass.desk, out);
     }
-}
-
-/// Adds c times a packet's coefficients and payload to another packet of its lengths.
-fn add_symbols(out: &mut Packet, c: Gf, packet: &Packet)
-    requires coeffs { length packet.now.coeffs ≡ length out.old.coeffs }
-    requires payload { length packet.now.payload ≡ length out.old.payload }
-    ensures coeffs { out.new.coeffs ≡ plus_scaled out.old.coeffs c.0 packet.now.coeffs }
-    ensures payload { out.new.payload ≡ plus_scaled out.old.payload c.0 packet.now.payload }
-    ensures generation { out.new.generation ≡ out.old.generation }
-{
-    add_scaled::<16>(out.coeffs.as_mut_slice(), c, packet.coeffs.as_slice());
-    add_scaled::<16>(out.payload.as_mut_slice(), c, packet.payload.as_slice());
 }

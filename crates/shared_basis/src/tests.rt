@@ -1,34 +1,18 @@
 //! Offers, looks, draws and closings by one thread and by several, against answers that were worked out by hand.
 ghost use Rattle.std.specs.Prelude.{◌≡◌, ◌<◌, ◌≤◌, ◌+◌, length, IfOk, IsTrue};
 ghost use Rattle.std.specs.List.{All};
+ghost use Rattle.std.specs.Prelude.{◌≡◌, ◌<◌, ◌≤◌, ◌+◌, length, IfOk};
 ghost use Rattle.linear_spec.specs.Packet.{Fits};
-ghost use Rattle.linear_spec.specs.Passing.{AreEquations};
-ghost use Rattle.basis_core.specs.Machine.{FitsEvent};
 ghost use Rattle.table_rows.specs.Worked.{IsSmall};
 ghost use Rattle.shared_basis.specs.Passes.{IsNewPass, IsPassOf};
 
 use super::*;
-use basis_core::{Answer, BasisTrace, CallerOffers, Event, Replayed, merge, replay};
+use basis_core::{Answer, BasisTrace, CallerOffers, Event, Replayed, merge, replay_if_fit};
 use gf16::{Gf, Memory};
-use linear_spec::{Drawn, Equations, List, Packet, Record, Reply, SymVec};
+use linear_spec::{Drawn, Equations, List, Packet, Record, Reply};
 use std::alloc::Global;
 use std::test::Fail;
 use std::thread::{Threads, join};
-
-/// Equations with no checks, for one generation.
-fn no_checks(alloc: Global, k: u16, s: u16) -> Result<Equations, Memory>
-    ensures equations { IfOk result AreEquations }
-    ensures shape { IfOk result (λ e. (e.k ≡ k) × (e.s ≡ s) × (e.generations ≡ 1) × (e.checks ≡ 0)) }
-{
-    Ok(Equations {
-        checks: 0,
-        k,
-        s,
-        generations: 1,
-        weights: SymVec::zeros(alloc, 0)?,
-        sums: SymVec::zeros(alloc, 0)?,
-    })
-}
 
 /// A new basis for packets of two coefficients and one symbol, and its two passes.
 fn small_basis(alloc: Global, room: u32) -> Result<(SharedBasis, Pass, Pass), Memory>
@@ -37,7 +21,7 @@ fn small_basis(alloc: Global, room: u32) -> Result<(SharedBasis, Pass, Pass), Me
     ensures first { IfOk result (λ made. IsNewPass made.0 0 room made.1) }
     ensures second { IfOk result (λ made. IsNewPass made.0 1 room made.2) }
 {
-    let equations = no_checks(alloc, 2, 1)?;
+    let equations = Equations::without_checks(alloc, 2, 1, 1)?;
     let params = Params {
         peer: 0,
         generation: 0,
@@ -54,11 +38,7 @@ fn small_basis(alloc: Global, room: u32) -> Result<(SharedBasis, Pass, Pass), Me
 fn packet(alloc: Global, coeffs: [u16; 2], symbol: u16) -> Result<Packet, Memory>
     ensures { IfOk result (λ packet. Fits 2 1 packet × (packet.generation ≡ 0)) }
 {
-    let packet = Packet {
-        generation: 0,
-        coeffs: SymVec::from_slice(alloc, &coeffs)?,
-        payload: SymVec::from_slice(alloc, &[symbol])?,
-    };
+    let packet = Packet::from_slices(alloc, 0, &coeffs, &[symbol])?;
     linear_spec::laws::packet_fits(&packet);
     Ok(packet)
 }
@@ -253,38 +233,12 @@ fn holds(packet: &Packet, coeffs: [u16; 2], symbol: u16) -> bool {
         && packet.payload.as_slice() == [symbol].as_slice()
 }
 
-fn fits(event: &Event) -> bool
-    ensures { IsTrue result → FitsEvent 2 1 event.now }
-{
-    match event {
-        Event::Offer { packet, .. } => {
-            linear_spec::laws::packet_fits(packet);
-            packet.coeffs.len() == 2 && packet.payload.len() == 1
-        }
-        Event::Draw { .. } => true,
-    }
-}
-
-fn all_fit(events: &[Event]) -> bool
-    ensures { IsTrue result → All (FitsEvent 2 1) events.now }
-{
-    for event in events {
-        if !fits(event) {
-            return false;
-        }
-    }
-    true
-}
-
 /// Replays events that are found to fit.
 fn replayed(alloc: Global, events: &List<Event>) -> Result<Replayed, Fail> {
     if events.len() > 1000 {
         return Err("too many events")?;
     }
-    if !all_fit(events.as_slice()) {
-        return Err("an event that does not fit")?;
-    }
-    Ok(replay(alloc, 2, 1, events)?)
+    Ok(replay_if_fit(alloc, 2, 1, events)?.ok_or("an event that does not fit")?)
 }
 
 /// What a trace of two callers does not keep: that each offered this packet, which passes.

@@ -6,13 +6,14 @@ use Rattle.std.proofs.lemmas.List.{append-nil, get_or_default, length-map}
 use Rattle.std.proofs.lemmas.List.Elements.{All-nil, All-push, All-same}
 use Rattle.std.proofs.lemmas.List.FromFn.{map-range_with_len_more}
 use Rattle.linear_spec.specs.declared.packet.Packet.{Packet}
+use Rattle.linear_spec.specs.Packet.{zeros_of}
 use Rattle.linear_spec.specs.declared.record.Drawn.{Drawn}
 use Rattle.linear_spec.specs.declared.record.Drawn.TheVariants.{Sent, Nothing}
 use Rattle.linear_spec.specs.declared.record.Record.{Record}
 use Rattle.linear_spec.specs.SequentialBasis.{packets_of}
 use Rattle.basis_core.specs.Calls.{IsDrawnAt, KeptCall, KeptDraw, recorded_by}
 use Rattle.basis_core.specs.Legal.{HaveSeenAtMost}
-use Rattle.recode.specs.Draws.{drawn_over, drawn_packet, left_by, tag_of_draw, zeros_of}
+use Rattle.recode.specs.Draws.{drawn_over, drawn_packet, left_by, tag_of_draw}
 use Rattle.shared_basis.specs.Bases.{PassValue}
 use Rattle.shared_basis.specs.Passes.{HasCalled, HasNotCalled, SeesOn}
 use Rattle.shared_reception.specs.declared.sends.SentDraw.{SentDraw}

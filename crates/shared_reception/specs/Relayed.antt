@@ -7,14 +7,14 @@ use Rattle.std.specs.List.{All}
 use Rattle.linear_spec.specs.declared.equations.Equations.{Equations}
 use Rattle.linear_spec.specs.declared.packet.Packet.{Packet}
 use Rattle.linear_spec.specs.declared.record.Record.{Record}
-use Rattle.linear_spec.specs.Packet.{Fits}
+use Rattle.linear_spec.specs.Packet.{Fits, zeros_of}
 use Rattle.linear_spec.specs.Rows.{StandForAll}
 use Rattle.linear_spec.specs.SequentialBasis.{packets_of}
 use Rattle.basis_core.specs.declared.trace.CallerTrace.{CallerTrace}
 use Rattle.basis_core.specs.Calls.{KeptCall, KeptDraw, call_of}
 use Rattle.basis_core.specs.Legal.{IsLegalHistory}
 use Rattle.receive_pass.specs.Workers.{AreOffersOf}
-use Rattle.recode.specs.Draws.{drawn_over, drawn_packet, left_by, numbers_of, tag_of_draw, zeros_of}
+use Rattle.recode.specs.Draws.{drawn_over, drawn_packet, left_by, numbers_of, tag_of_draw}
 use Rattle.shared_basis.specs.declared.params.Closed.{Closed}
 use Rattle.shared_reception.specs.declared.sends.SentDraw.{SentDraw}
 use Rattle.shared_reception.specs.declared.sends.Sending.{Sending}

@@ -1,18 +1,18 @@
 //! The sender of one basis: it meets the receivers, and draws.
 ghost use Rattle.std.specs.Prelude.{◌≡◌, ◌≤◌, ◌<◌, [], IfOk};
 ghost use Rattle.std.specs.List.{All};
-ghost use Rattle.linear_spec.specs.Packet.{Fits};
+ghost use Rattle.linear_spec.specs.Packet.{zeros_of};
 ghost use Rattle.linear_spec.specs.SequentialBasis.{packets_of};
 ghost use Rattle.basis_core.specs.Calls.{IsDrawnAt, KeptDraw};
-ghost use Rattle.recode.specs.Draws.{drawn_packet, left_by, tag_of_draw, zeros_of};
+ghost use Rattle.recode.specs.Draws.{drawn_packet, left_by, tag_of_draw};
 ghost use Rattle.shared_basis.specs.Passes.{HasCalled, HasNotCalled, IsPassOf, SeesOn};
 ghost use Rattle.shared_reception.specs.Relaying.{HasDrawn, HaveMet};
 
 use crate::sends::{Sending, SentDraw};
 use gf16::Memory;
-use linear_spec::{List, Packet, SymVec};
+use linear_spec::{List, Packet};
 use recode::draw;
-use shared_basis::{Params, Pass, SharedBasis};
+use shared_basis::{Pass, SharedBasis};
 use std::alloc::Global;
 
 /// Lets the sender meet each receiver: it has then seen whatever any of them has.
@@ -71,7 +71,10 @@ fn draw_one(
         ≡ left_by sent.drawn (drawn_packet p.k p.s p.generation sending.now.key sending.now.link q (packets_of sender.new.seen)) (zeros_of p.k p.s p.generation)) }
 {
     let params = basis.params();
-    let mut packet = zero_packet(alloc, &params)?;
+    let k = usize::from(params.k);
+    let s = usize::from(params.s);
+    let mut packet = Packet::zeros(alloc, k, s, params.generation)?;
+    linear_spec::laws::packet_fits(&packet);
     let drawn = draw(basis, sender, &sending.key, sending.link, q, &mut packet);
     let generation = params.generation;
     Ok(SentDraw {
@@ -80,18 +83,4 @@ fn draw_one(
         drawn,
         packet,
     })
-}
-
-/// A packet of zeros.
-fn zero_packet(alloc: Global, params: &Params) -> Result<Packet, Memory>
-    ensures zeros { IfOk result (λ packet. packet ≡ zeros_of params.now.k params.now.s params.now.generation) }
-    ensures fits { IfOk result (Fits params.now.k params.now.s) }
-{
-    let packet = Packet {
-        generation: params.generation,
-        coeffs: SymVec::zeros(alloc, usize::from(params.k))?,
-        payload: SymVec::zeros(alloc, usize::from(params.s))?,
-    };
-    linear_spec::laws::packet_fits(&packet);
-    Ok(packet)
 }

@@ -1,12 +1,10 @@
 //! Receivers in threads, and the one history that is kept of them.
-ghost use Rattle.std.specs.Prelude.{◌<◌, IfOk, IsTrue};
-ghost use Rattle.std.specs.List.{All};
+ghost use Rattle.std.specs.Prelude.{◌<◌, IfOk};
 ghost use Rattle.linear_spec.specs.Packet.{Fits};
-ghost use Rattle.basis_core.specs.Machine.{FitsEvent};
 
 use super::fetching::stream_of;
 use super::*;
-use basis_core::{BasisTrace, CallerOffers, CallerTrace, Event, Replayed, merge, replay};
+use basis_core::{BasisTrace, CallerOffers, CallerTrace, Event, Replayed, merge, replay_if_fit};
 use linear_spec::{Packet, Record, SymVec};
 use plain_basis::PlainBasis;
 use std::hint::spin_loop;
@@ -122,38 +120,12 @@ fn all_offers(alloc: Global, receivers: usize) -> Result<List<CallerOffers>, Mem
     Ok(offers)
 }
 
-fn fits(event: &Event) -> bool
-    ensures { IsTrue result → FitsEvent 2 1 event.now }
-{
-    match event {
-        Event::Offer { packet, .. } => {
-            linear_spec::laws::packet_fits(packet);
-            packet.coeffs.len() == 2 && packet.payload.len() == 1
-        }
-        Event::Draw { .. } => true,
-    }
-}
-
-fn all_fit(events: &[Event]) -> bool
-    ensures { IsTrue result → All (FitsEvent 2 1) events.now }
-{
-    for event in events {
-        if !fits(event) {
-            return false;
-        }
-    }
-    true
-}
-
 /// Replays events that are found to fit.
 fn replayed(alloc: Global, events: &List<Event>) -> Result<Replayed, Fail> {
     if events.len() > 1000 {
         return Err("too many events")?;
     }
-    if !all_fit(events.as_slice()) {
-        return Err("an event that does not fit")?;
-    }
-    Ok(replay(alloc, 2, 1, events)?)
+    Ok(replay_if_fit(alloc, 2, 1, events)?.ok_or("an event that does not fit")?)
 }
 
 /// The answer that was kept of the call that an event is, where the packets were dealt to so many receivers.

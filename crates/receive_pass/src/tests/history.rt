@@ -1,7 +1,6 @@
 //! Eight workers in threads, and the one history that they leave.
-ghost use Rattle.std.specs.Prelude.{◌≡◌, ◌<◌, length, IfOk, IsTrue};
+ghost use Rattle.std.specs.Prelude.{◌≡◌, ◌<◌, length, IfOk};
 ghost use Rattle.std.specs.List.{All};
-ghost use Rattle.basis_core.specs.Machine.{FitsEvent};
 ghost use Rattle.linear_spec.specs.Passing.{AreEquations};
 ghost use Rattle.receive_pass.specs.Workers.{HavePasses};
 ghost use Rattle.receive_pass.specs.Worked.{AreNumbered, IsForPasses, HasPasses, IsOfFirst};
@@ -9,7 +8,7 @@ ghost use Rattle.receive_pass.specs.Worked.{AreNumbered, IsForPasses, HasPasses,
 use super::making::{basis_with, make_equations, make_workers};
 use crate::{NoGate, TaggedPacket, Worker, receive_all};
 use basis_core::{
-    Answer, BasisTrace, Call, CallerOffers, CallerTrace, Event, Replayed, merge, replay,
+    Answer, BasisTrace, Call, CallerOffers, CallerTrace, Event, Replayed, merge, replay_if_fit,
 };
 use gf16::{Gf, Memory};
 use linear_spec::{Equations, List, Packet, Record, Reply, SymVec};
@@ -160,38 +159,12 @@ fn close(
     })
 }
 
-fn fits(event: &Event) -> bool
-    ensures { IsTrue result → FitsEvent 64 2 event.now }
-{
-    match event {
-        Event::Offer { packet, .. } => {
-            linear_spec::laws::packet_fits(packet);
-            packet.coeffs.len() == 64 && packet.payload.len() == 2
-        }
-        Event::Draw { .. } => true,
-    }
-}
-
-fn all_fit(events: &[Event]) -> bool
-    ensures { IsTrue result → All (FitsEvent 64 2) events.now }
-{
-    for event in events {
-        if !fits(event) {
-            return false;
-        }
-    }
-    true
-}
-
 /// Replays events that are found to fit.
 fn replayed(alloc: Global, events: &List<Event>) -> Result<Replayed, Fail> {
     if events.len() > 1000 {
         return Err("too many events")?;
     }
-    if !all_fit(events.as_slice()) {
-        return Err("an event that does not fit")?;
-    }
-    Ok(replay(alloc, 64, 2, events)?)
+    Ok(replay_if_fit(alloc, 64, 2, events)?.ok_or("an event that does not fit")?)
 }
 
 /// Lets eight workers receive, and closes: what was kept, its events in the order of the merge, and their replay.

@@ -24,30 +24,28 @@ changed-vector field n change symbols is vector =
       symbols = All-set IsSymbol symbols 0 changed (field.sum_closed (get_or symbols 0 0) change (first-symbol symbols vector.symbols) is) vector.symbols;
     }
 
-pub returns-clause-fits : goal.returns-clause-fits
-returns-clause-fits c = λ k s generation link q key front fit.
-    let coefficients = draw_coefficients key link q (length front) in
-    let vector = coefficients-vector key link q (length front) in
-    record {
-      coeffs = c.combinations.ensures.is_vector k coefficients (coefficients_of front) vector.symbols (coefficients_fit k s front fit);
-      payload = c.combinations.ensures.is_vector s coefficients (payloads_of front) vector.symbols (payloads_fit k s front fit);
-    }
-
-pub returns-clause-span : goal.returns-clause-span
-returns-clause-span c = λ k s generation link q key front fit.
-    let coefficients = draw_coefficients key link q (length front) in
-    record {
-      coefficients = coefficients;
-      are_symbols = subst (λ n. IsVector n coefficients) (sym (length-map front vector_of)) (coefficients-vector key link q (length front));
-      combine = c.combinations.ensures.packets k s coefficients front fit;
-    }
-
-pub returns-clause-polluted : goal.returns-clause-polluted
-returns-clause-polluted c = λ k s generation link q key front fit.
-    let coefficients = draw_coefficients key link q (length front) in
-    let vector = coefficients-vector key link q (length front) in
-    record {
-      coeffs = c.combinations.ensures.is_vector k coefficients (coefficients_of front) vector.symbols (coefficients_fit k s front fit);
-      payload = changed-vector c.field.ensures s (pollution_of key link q) (combination_of s coefficients (payloads_of front)) (pollution-symbol key link q)
-          (c.combinations.ensures.is_vector s coefficients (payloads_of front) vector.symbols (payloads_fit k s front fit));
-    }
+pub returns : goal.returns
+returns c = record {
+  fits = λ k s generation link q key front fit.
+      let coefficients = draw_coefficients key link q (length front) in
+      let vector = coefficients-vector key link q (length front) in
+      record {
+        coeffs = c.combinations.ensures.is_vector k coefficients (coefficients_of front) vector.symbols (coefficients_fit k s front fit);
+        payload = c.combinations.ensures.is_vector s coefficients (payloads_of front) vector.symbols (payloads_fit k s front fit);
+      };
+  span = λ k s generation link q key front fit.
+      let coefficients = draw_coefficients key link q (length front) in
+      record {
+        coefficients = coefficients;
+        are_symbols = subst (λ n. IsVector n coefficients) (sym (length-map front vector_of)) (coefficients-vector key link q (length front));
+        combine = c.combinations.ensures.packets k s coefficients front fit;
+      };
+  polluted = λ k s generation link q key front fit.
+      let coefficients = draw_coefficients key link q (length front) in
+      let vector = coefficients-vector key link q (length front) in
+      record {
+        coeffs = c.combinations.ensures.is_vector k coefficients (coefficients_of front) vector.symbols (coefficients_fit k s front fit);
+        payload = changed-vector c.field.ensures s (pollution_of key link q) (combination_of s coefficients (payloads_of front)) (pollution-symbol key link q)
+            (c.combinations.ensures.is_vector s coefficients (payloads_of front) vector.symbols (payloads_fit k s front fit));
+      };
+}

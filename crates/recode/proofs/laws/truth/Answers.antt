@@ -17,16 +17,16 @@ no_change field change symbols some same =
     sym (field.zero_sum change) ∙ ap (λ a. sum_of a change) (sym (field.sum_self first)) ∙ field.sum_associates first first change
     ∙ ap (sum_of first) (sym at_first) ∙ field.sum_self first
 
-pub returns-clause-drawn : goal.returns-clause-drawn
-returns-clause-drawn c = λ k s generation link q key front blocks fit true count vectors.
-    let vector = coefficients-vector key link q (length front) in
-    c.combinations.ensures.truth k s (draw_coefficients key link q (length front)) front blocks vector.symbols vector.count fit true count vectors
-
-pub returns-clause-polluted : goal.returns-clause-polluted
-returns-clause-polluted c = λ k s generation link q key front blocks fit true count vectors some is_true.
-    let coefficients = draw_coefficients key link q (length front) in
-    let vector = coefficients-vector key link q (length front) in
-    let payload = combination_of s coefficients (payloads_of front) in
-    let drawn = c.combinations.ensures.truth k s coefficients front blocks vector.symbols vector.count fit true count vectors in
-    let long : 0 < length payload = omega (arith, length-combination s coefficients (payloads_of front)) in
-    pollution-not_zero key link q (no_change c.field.ensures (pollution_of key link q) payload long (sym drawn ∙ is_true))
+pub returns : goal.returns
+returns c = record {
+  drawn = λ k s generation link q key front blocks fit true count vectors.
+      let vector = coefficients-vector key link q (length front) in
+      c.combinations.ensures.truth k s (draw_coefficients key link q (length front)) front blocks vector.symbols vector.count fit true count vectors;
+  polluted = λ k s generation link q key front blocks fit true count vectors some is_true.
+      let coefficients = draw_coefficients key link q (length front) in
+      let vector = coefficients-vector key link q (length front) in
+      let payload = combination_of s coefficients (payloads_of front) in
+      let drawn = c.combinations.ensures.truth k s coefficients front blocks vector.symbols vector.count fit true count vectors in
+      let long : 0 < length payload = omega (arith, length-combination s coefficients (payloads_of front)) in
+      pollution-not_zero key link q (no_change c.field.ensures (pollution_of key link q) payload long (sym drawn ∙ is_true));
+}

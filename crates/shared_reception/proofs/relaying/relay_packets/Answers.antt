@@ -79,5 +79,5 @@ returns-clause-each g c =
 
 pub returns-clause-fits : goal.returns-clause-fits
 returns-clause-fits g c =
-    all_fit c.relay_bases.result c.spans.ensures.fits c.args.equations.now c.args.receivers c.args.packets.items c.args.sending.now
+    all_fit c.relay_bases.result c.spans.ensures c.args.equations.now c.args.receivers c.args.packets.items c.args.sending.now
     (IfOk-weaker c.relay_bases.result _ _ (λ relayed same. same ∙ c.in_ok-bases.ensures.count) c.relay_bases.ensures.count) (returns-clause-each g c) c.relay_bases.ensures.sent

@@ -1,7 +1,7 @@
 use Rattle.std.proofs.Common.{eqb, arith}
 use Rattle.std.proofs.lemmas.List.Sums.{length-filter, count_by-le-length}
 use Rattle.basis_core.specs.Machine.{caller_of}
-use Rattle.receive_pass.proofs.tests.history.replayed.Goals as goal
+use Rattle.basis_core.proofs.machine.replay_if_fit.Goals as goal
 
 pub replay-requires-clause-room : goal.replay-requires-clause-room
 replay-requires-clause-room c = λ caller.

@@ -1,7 +1,8 @@
 use Rattle.std.proofs.Common.{ℕ, ◌<◌, get_or}
 use Rattle.basis_core.specs.declared.trace.Event.{Event}
 use Rattle.basis_core.specs.Machine.{FitsEvent}
-use Rattle.shared_basis.proofs.tests.all_fit.Given as goal
+use Rattle.basis_core.proofs.machine.all_fit.Given as goal
 
+-- the events so far fit
 abbrev pub invariant-loop-event : goal.invariant-loop-event
-invariant-loop-event l = (j : ℕ) (d : Event) → j < l.event-index → FitsEvent 2 1 (get_or l.events j d)
+invariant-loop-event l = (j : ℕ) (d : Event) → j < l.event-index → FitsEvent l.k l.s (get_or l.events j d)
