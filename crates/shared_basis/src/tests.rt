@@ -1,6 +1,4 @@
 //! Offers, looks, draws and closings by one thread and by several, against answers that were worked out by hand.
-ghost use Rattle.std.specs.Prelude.{◌≡◌, ◌<◌, ◌≤◌, ◌+◌, length, IfOk, IsTrue};
-ghost use Rattle.std.specs.List.{All};
 ghost use Rattle.std.specs.Prelude.{◌≡◌, ◌<◌, ◌≤◌, ◌+◌, length, IfOk};
 ghost use Rattle.linear_spec.specs.Packet.{Fits};
 ghost use Rattle.table_rows.specs.Worked.{IsSmall};
