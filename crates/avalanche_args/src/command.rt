@@ -1,3 +1,4 @@
+//! Commands and their words.
 ghost use Rattle.std.specs.Prelude.{◌≡◌};
 ghost use Rattle.avalanche_args.specs.Options.{command_named, options_of, word_of};
 

@@ -1,3 +1,4 @@
+//! The options: their names, ranges and defaults.
 ghost use Rattle.std.specs.Prelude.{◌≡◌, IsTrue};
 ghost use Rattle.avalanche_args.specs.Options.{takes, text_of};
 ghost use Rattle.avalanche_args.specs.Ranges.{IsWithin};

@@ -1,3 +1,4 @@
+//! Words, and the commands or classes of error that they are.
 use super::*;
 use gf16::Memory;
 use linear_spec::Words;

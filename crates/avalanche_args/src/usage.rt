@@ -1,3 +1,4 @@
+//! The classes of words that are no command.
 use crate::OptionName;
 use gf16::Memory;
 

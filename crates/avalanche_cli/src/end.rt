@@ -1,3 +1,4 @@
+//! The ends of a run.
 ghost use Rattle.std.specs.Prelude.{◌≡◌};
 ghost use Rattle.avalanche_cli.specs.End.{status_of};
 

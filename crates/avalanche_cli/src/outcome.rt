@@ -1,3 +1,4 @@
+//! What a run comes to: its end and its trace.
 ghost use Rattle.std.specs.Prelude.{◌≡◌, []};
 
 use crate::{End, Trace};

@@ -1,3 +1,4 @@
+//! What the tests of the program share: streams, and runs in memory.
 ghost use Rattle.std.specs.Prelude.{◌≡◌, ◌≤◌, None, length, IfOk};
 
 use super::*;

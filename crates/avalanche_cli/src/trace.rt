@@ -1,3 +1,4 @@
+//! What a run leaves behind of its bases and of what it sent.
 use basis_core::BasisTrace;
 use linear_spec::{Drawn, List};
 

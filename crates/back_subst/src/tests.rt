@@ -1,3 +1,4 @@
+//! Closed bases solved, and held against the plain solution.
 ghost use Rattle.std.specs.Prelude.{◌≡◌, ◌<◌, ◌≤◌, ◌^◌, length, IfOk};
 ghost use Rattle.std.specs.List.{All};
 ghost use Rattle.linear_spec.specs.Packet.{Fits};

@@ -1,3 +1,4 @@
+//! The sequential basis as a machine over events.
 ghost use Rattle.std.specs.Prelude.{◌≡◌, ◌<◌, ◌≤◌, ◌^◌, ◌==◌, ℕ, [], ◌∷◌, ◌++◌, count_by, length, IfOk, IsTrue, MatchOption, OnOk, OnErr};
 ghost use Rattle.std.specs.List.{All};
 ghost use Rattle.linear_spec.specs.declared.reply.Reply.TheVariants.{FailedCheck};

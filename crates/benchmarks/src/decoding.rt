@@ -1,3 +1,4 @@
+//! A stream decoded, and its frames counted.
 ghost use Rattle.std.specs.Prelude.{◌≡◌, ◌+◌, ◌*◌, ◌^◌, ◌<◌, ◌≤◌, IfErr, IfOk, IsErrOf, OnOk, length};
 ghost use Rattle.packet_wire.specs.Decoding.{GoesOn, HasGrown, taken_by};
 ghost use Rattle.packet_wire.specs.Faults.{IsFirstFault};

@@ -1,3 +1,4 @@
+//! What the words ask to be timed.
 use crate::decoding::Decoding;
 use crate::offers::Offers;
 use crate::shared::SharedOffers;

@@ -1,3 +1,4 @@
+//! Kernels over slices of symbols.
 ghost use Rattle.std.specs.Prelude.{◌≡◌, length, slice_set};
 ghost use Rattle.benchmarks.specs.Turns.{sums_of, turn_of};
 ghost use Rattle.gf_lanes.specs.Lanes.{IsLaneCount};

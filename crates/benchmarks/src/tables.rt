@@ -1,3 +1,4 @@
+//! Tables of shared words, filled by one thread.
 ghost use Rattle.std.specs.Prelude.{◌≡◌, ◌*◌, ◌≤◌, IfOk};
 ghost use Rattle.linear_spec.specs.Passing.{AreEquations};
 ghost use Rattle.table_rows.specs.Layout.{basis_length};

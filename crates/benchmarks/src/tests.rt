@@ -1,3 +1,4 @@
+//! Each job at small sizes, against values that were worked out by hand.
 ghost use Rattle.std.specs.Prelude.{◌≤◌, length};
 
 use crate::decoding::Decoding;

@@ -1,3 +1,4 @@
+//! A job over slices of symbols, and its checksum.
 ghost use Rattle.std.specs.Prelude.{◌≡◌, length, IfOk};
 ghost use Rattle.gf16.specs.Field.{total_of};
 ghost use Rattle.gf_lanes.specs.Lanes.{IsLaneCount};

@@ -1,3 +1,4 @@
+//! A source of zeros.
 ghost use Rattle.std.specs.Prelude.{◌≡◌, ◌≤◌, IfOk, length, replicate};
 
 use crate::work::total;

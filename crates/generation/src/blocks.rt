@@ -1,3 +1,4 @@
+//! Files cut into blocks, and joined again.
 ghost use Rattle.std.specs.Prelude.{◌≡◌, ◌*◌, ◌<◌, IfOk, length, take};
 ghost use Rattle.linear_spec.specs.Symbols.{IsVector};
 ghost use Rattle.generation.specs.Shape.{generations_of, symbols_per_block};

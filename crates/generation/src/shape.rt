@@ -1,3 +1,4 @@
+//! The shape of a file: how many generations of how many blocks of how many symbols.
 ghost use Rattle.std.specs.Prelude.{◌≡◌, ◌*◌, ◌<◌, ◌≤◌, ◌↔◌, IfOk, IsErrOf, IsOk};
 ghost use Rattle.generation.specs.Shape.{IsBlockCount, IsBlockLength, IsShape, generations_of, symbols_per_block};
 

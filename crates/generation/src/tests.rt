@@ -1,3 +1,4 @@
+//! Shapes at their limits, and a file cut and joined.
 ghost use Rattle.std.specs.Prelude.{◌≡◌, IfOk, All, length};
 ghost use Rattle.linear_spec.specs.Symbols.{IsVector};
 

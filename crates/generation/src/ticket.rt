@@ -1,3 +1,4 @@
+//! Tickets: the key of a server's weights, and the sums of each generation's blocks.
 use linear_spec::SymVec;
 
 /// What a peer tests packets with: the key of its random weights, the number of checks, and the weighted sums of the source's blocks.

@@ -1,3 +1,4 @@
+//! Products and inverses against tables of another tool.
 use crate::{Gf, Memory};
 use std::alloc::AllocError;
 

@@ -1,3 +1,4 @@
+//! Kernels at each width and at lengths around it.
 ghost use Rattle.std.specs.Prelude.{◌≤◌};
 ghost use Rattle.gf_lanes.specs.Lanes.{IsLaneCount};
 

@@ -1,3 +1,4 @@
+//! Each call of the plain data once.
 ghost use Rattle.std.specs.Prelude.{length, IfOk};
 ghost use Rattle.linear_spec.specs.Packet.{Fits};
 

@@ -1,3 +1,4 @@
+//! Which kind of frame may follow which.
 ghost use Rattle.std.specs.Prelude.{◌≡◌};
 ghost use Rattle.packet_wire.specs.Faults.{IsPartOfFrame, NothingFails};
 ghost use Rattle.packet_wire.specs.Admitting.{IsAdmitted};

@@ -1,3 +1,4 @@
+//! The decoder of a stream, fed in pieces of any length.
 ghost use Rattle.std.specs.Prelude.{◌≡◌, ◌+◌, ◌^◌, ◌<◌, ◌≤◌, ◌↔◌, ℕ, List as list, [], ◌∷◌, length, OnOk, IsOk, IsErrOf, vec_len};
 ghost use Rattle.packet_wire.specs.Faults.{IsPartOfFrame, NothingFails};
 ghost use Rattle.packet_wire.specs.declared.fault.WireFault as faults;

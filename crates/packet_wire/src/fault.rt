@@ -1,3 +1,5 @@
+//! Faults of a stream: what is wrong, and at which byte.
+
 /// What is wrong at the place of a fault. `as u8` gives each kind's number.
 #[derive(Clone, Copy, Debug, PartialEq, Eq)]
 pub enum FaultKind {

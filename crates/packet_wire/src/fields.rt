@@ -1,3 +1,4 @@
+//! Numbers and lists of symbols in the body of a frame.
 ghost use Rattle.std.specs.Prelude.{◌≡◌, ◌≤◌, ◌+◌, length};
 ghost use Rattle.linear_spec.specs.Symbols.{AreBytes};
 ghost use Rattle.packet_wire.specs.Judgements.{number16_at as number16_of, number32_at as number32_of, number64_at as number64_of};

@@ -1,3 +1,4 @@
+//! Frames and their kinds.
 ghost use Rattle.std.specs.Prelude.{◌≡◌};
 ghost use Rattle.packet_wire.specs.Frame.{head, number_of};
 

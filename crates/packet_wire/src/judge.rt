@@ -1,3 +1,4 @@
+//! Whole frames judged, field by field.
 ghost use Rattle.std.specs.Prelude.{◌≡◌, ◌≤◌, ◌==◌, ◌++◌, false, length, if◌then◌else◌, nat_le};
 ghost use Rattle.std.specs.List.{list_any};
 ghost use Rattle.packet_wire.specs.Judgements.{body_judgements, head_judgements, manifest_judgements, packet_judgements};

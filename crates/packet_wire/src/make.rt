@@ -1,3 +1,4 @@
+//! Frames made of bodies that were judged.
 ghost use Rattle.std.specs.Prelude.{◌≡◌, ◌+◌, ◌*◌, ◌≤◌, length, IfOk};
 ghost use Rattle.generation.specs.Shape.{IsShape};
 ghost use Rattle.packet_wire.specs.Frames.{phase_after};

@@ -1,3 +1,4 @@
+//! Manifests: the shape and the digest of a file.
 use generation::Shape;
 
 /// What a stream says of its file: its shape, and the SHA-256 of its bytes.

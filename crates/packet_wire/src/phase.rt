@@ -1,3 +1,4 @@
+//! How far a stream has come.
 use generation::Shape;
 
 /// How far a stream has come: which frame may follow.

@@ -1,3 +1,4 @@
+//! Streams of docs/FORMATS.md written and read.
 ghost use Rattle.std.specs.Prelude.{◌≡◌, length, IfOk};
 
 mod decoding;

@@ -1,3 +1,4 @@
+//! Frames written as bytes.
 ghost use Rattle.std.specs.Prelude.{◌≡◌, ◌+◌, ◌*◌, ◌≤◌, ◌++◌, length, OnOk, OnErr};
 ghost use Rattle.linear_spec.specs.Symbols.{be_bytes_of};
 ghost use Rattle.packet_wire.specs.Frame.{head, number_of};

@@ -1,3 +1,5 @@
+//! Gates: what a worker passes before and after each call.
+
 /// What a worker passes before and after each call, so that a test can see where workers are. `call` is the packet's place in
 /// the worker's inbox.
 pub trait Gate: Sync {

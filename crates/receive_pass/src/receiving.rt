@@ -1,3 +1,4 @@
+//! One packet tested and offered.
 ghost use Rattle.std.specs.Prelude.{◌≡◌, ◌<◌, ◌≤◌, ◌+◌, ◌*◌, length};
 ghost use Rattle.basis_core.specs.Calls.{KeptOffer, point_of_reply};
 ghost use Rattle.basis_core.specs.Legal.{IsAnsweredOver};

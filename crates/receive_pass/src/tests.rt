@@ -1,3 +1,4 @@
+//! Workers at once, and answers by check first.
 use super::*;
 use basis_core::{Answer, Call};
 use linear_spec::{List, Packet, Reply};

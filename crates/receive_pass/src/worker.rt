@@ -1,3 +1,4 @@
+//! Workers and their inboxes.
 use linear_spec::{List, Packet};
 use shared_basis::Pass;
 

@@ -1,3 +1,4 @@
+//! A stream's packets received by threads, and the bases closed.
 ghost use Rattle.std.specs.Prelude.{◌≡◌, ◌<◌, ◌≤◌, ◌^◌, ℕ, length, slice_index_or, IfOk};
 ghost use Rattle.std.specs.List.{All};
 ghost use Rattle.linear_spec.specs.Passing.{AreEquations, IsTestable};

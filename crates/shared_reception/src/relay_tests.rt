@@ -1,3 +1,4 @@
+//! Packets received and drawn from.
 ghost use Rattle.std.specs.Prelude.{◌≡◌, ◌<◌, length, IfOk};
 ghost use Rattle.std.specs.List.{All};
 ghost use Rattle.linear_spec.specs.Passing.{AreEquations, IsTestable};

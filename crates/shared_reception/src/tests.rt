@@ -1,3 +1,4 @@
+//! Packets dealt to receivers, and what each basis keeps.
 ghost use Rattle.std.specs.Prelude.{◌≡◌, ◌<◌, ◌≤◌, ◌^◌, length, IfOk};
 ghost use Rattle.std.specs.List.{All};
 ghost use Rattle.linear_spec.specs.Passing.{AreEquations, IsTestable};

@@ -1,3 +1,4 @@
+//! The equations of a ticket.
 ghost use Rattle.std.specs.Prelude.{◌≡◌, ◌*◌, ◌≤◌, IfOk, length};
 ghost use Rattle.linear_spec.specs.Passing.{AreEquations};
 ghost use Rattle.generation.specs.Shape.{generations_of};

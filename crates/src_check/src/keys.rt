@@ -1,3 +1,4 @@
+//! The keys of weights: of a server by its number, and of its ticket for a peer.
 ghost use Rattle.std.specs.Prelude.{◌≡◌};
 ghost use Rattle.src_check.specs.Keys.{key_of_number, key_of_ticket};
 

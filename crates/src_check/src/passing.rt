@@ -1,3 +1,4 @@
+//! Which check a packet fails first.
 ghost use Rattle.std.specs.Prelude.{◌≡◌, ◌↔◌, ℕ, Some, ◌+◌, ◌*◌, ◌<◌, ◌≤◌, IfSome, IsNone, IsTrue, length, take, drop};
 ghost use Rattle.linear_spec.specs.Passing.{AreEquations, IsFirstFailing, IsTestable, Meets, Passes, sums_of, weights_of};
 

@@ -1,3 +1,4 @@
+//! Weights, sums and checks against values of another tool.
 ghost use Rattle.std.specs.Prelude.{◌≡◌, ◌*◌, ◌<◌, ◌≤◌, IfOk, length};
 ghost use Rattle.linear_spec.specs.Packet.{Fits};
 ghost use Rattle.linear_spec.specs.Passing.{AreEquations};

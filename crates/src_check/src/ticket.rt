@@ -1,3 +1,4 @@
+//! Tickets made of a file's blocks.
 ghost use Rattle.std.specs.Prelude.{◌≡◌, ◌*◌, ◌<◌, ◌≤◌, ◌++◌, IfOk, OnOk, length, map};
 ghost use Rattle.std.specs.List.{All, flat_map, range_with_len};
 ghost use Rattle.gf16.specs.Sums.{dot_of};

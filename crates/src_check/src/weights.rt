@@ -1,3 +1,4 @@
+//! The random weights of a check: the words of ChaCha20 (RFC 8439).
 ghost use Rattle.std.specs.Prelude.{◌≡◌, ◌<◌, ◌≤◌, ◌*◌, ◌%◌, ◌^◌, ◌++◌, IfOk, OnOk, length};
 ghost use Rattle.src_check.specs.Weights.{check_weights_of, weight_of, weights_of_checks};
 

@@ -1,3 +1,4 @@
+//! Sources and sinks over the standard streams.
 ghost use Rattle.std.specs.Prelude.{◌≡◌, ◌<◌, ◌≤◌, ◌+◌, ◌-◌, ◌^◌, min, ℕ, None, length, take, IfOk, IfErr, is_ok, if◌then◌else◌};
 ghost use Rattle.std.specs.Io.KnownBytes.{Appends, ReadConsumes};
 

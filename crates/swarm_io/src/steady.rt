@@ -1,3 +1,4 @@
+//! Sources and sinks that never fail.
 ghost use Rattle.std.specs.Prelude.{◌≡◌, ◌≤◌, ℕ, [], Some};
 
 use crate::{Failed, Sink, SinkRefusal, Source};

@@ -1,3 +1,4 @@
+//! Whole sources read, and whole texts written.
 ghost use Rattle.std.specs.Prelude.{None};
 
 use super::*;

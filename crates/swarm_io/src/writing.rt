@@ -1,3 +1,4 @@
+//! Whole texts written.
 ghost use Rattle.std.specs.Prelude.{◌≡◌, ◌≤◌, length, OnOk, OnErr, IsErrOf};
 ghost use Rattle.std.specs.Io.KnownBytes.{Appends};
 ghost use Rattle.swarm_io.specs.Counts.{Rose};

@@ -1,3 +1,4 @@
+//! Error lines, each as it is printed.
 ghost use Rattle.std.specs.Prelude.{◌≤◌};
 
 use super::*;

@@ -1,3 +1,4 @@
+//! Seeded streams: their lengths, tickets and refusals.
 ghost use Rattle.std.specs.Prelude.{◌≡◌};
 
 use super::*;

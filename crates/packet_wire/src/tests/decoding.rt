@@ -1,3 +1,4 @@
+//! Streams in pieces of every length, and their faults.
 ghost use Rattle.std.specs.Prelude.{◌<◌};
 
 use super::*;

@@ -1,3 +1,4 @@
+//! Sources and sinks in memory that run out, and that are told to fail.
 use super::*;
 use crate::{ReadAllError, WriteAllError, read_all, write_all_of};
 use std::test::Fail;

@@ -1,3 +1,4 @@
+//! Sources and sinks over readers and writers that fail.
 use super::*;
 use crate::{ReadAllError, WriteAllError, read_all, write_all_of};
 use std::io;
