@@ -1,3 +1,4 @@
+//! Tests of the forms over std.
 use super::*;
 use crate::{ReadAllError, WriteAllError, read_all, write_all_of};
 use std::io;
