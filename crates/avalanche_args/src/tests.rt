@@ -1,3 +1,4 @@
+//! Tests of the reader at the words of each command.
 use super::*;
 use gf16::Memory;
 use linear_spec::Words;

@@ -1,3 +1,4 @@
+//! What is wrong with words that ask for no command, and why words were not read.
 use crate::OptionName;
 use gf16::Memory;
 
