@@ -1,4 +1,4 @@
-//! Commands and their words.
+//! Commands and the values of their options, and the names and options of the commands.
 ghost use Rattle.std.specs.Prelude.{◌≡◌};
 ghost use Rattle.avalanche_args.specs.Options.{command_named, options_of, word_of};
 

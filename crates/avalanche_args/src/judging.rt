@@ -1,4 +1,4 @@
-//! The words of a command judged: which of them is wrong first, and in what way.
+//! The values of the options that were given, and the first of them that is wrong.
 ghost use Rattle.std.specs.Prelude.{◌≡◌, ◌<◌, ◌≤◌, ◌^◌, IfOk};
 ghost use Rattle.clap.specs.Words.{found_of, rows_of};
 ghost use Rattle.avalanche_args.specs.CommandOf.{judged_as, text_given};

@@ -1,4 +1,4 @@
-//! The options: their names, ranges and defaults.
+//! The table of options: how each is written, and the numbers that it takes.
 ghost use Rattle.std.specs.Prelude.{◌≡◌, IsTrue};
 ghost use Rattle.avalanche_args.specs.Options.{takes, text_of};
 ghost use Rattle.avalanche_args.specs.Ranges.{IsWithin};

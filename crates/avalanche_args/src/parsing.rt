@@ -1,4 +1,4 @@
-//! Values of options as clap finds them.
+//! The options of a command, as `clap` reads them.
 ghost use Rattle.std.specs.Prelude.{◌≡◌, IfOk, map};
 ghost use Rattle.clap.specs.Words.{app_of, with_rule};
 ghost use Rattle.avalanche_args.specs.Steps.{IsCauseOf, Parses};

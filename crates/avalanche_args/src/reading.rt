@@ -1,4 +1,4 @@
-//! The words of a program read as a command.
+//! The reader of the words of a command line.
 ghost use Rattle.std.specs.Prelude.{◌≡◌, IfOk};
 ghost use Rattle.avalanche_args.specs.CommandOf.{IfUsage, command_of};
 ghost use Rattle.avalanche_args.specs.Ranges.{IsInRange};

@@ -1,4 +1,4 @@
-//! Words, and the commands or classes of error that they are.
+//! Tests of the reader at the words of each command.
 use super::*;
 use gf16::Memory;
 use linear_spec::Words;

@@ -1,4 +1,4 @@
-//! The classes of words that are no command.
+//! What is wrong with words that ask for no command, and why words were not read.
 use crate::OptionName;
 use gf16::Memory;
 

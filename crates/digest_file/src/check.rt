@@ -1,4 +1,4 @@
-//! Blocks of a file against its digest (SHA-256 of FIPS 180-4).
+//! The blocks of a file against the manifest's digest, which is SHA-256 (FIPS 180-4).
 ghost use Rattle.std.specs.Prelude.{◌≡◌, ◌≢◌, ◌↔◌, take};
 ghost use Rattle.std.specs.List.{flat_map};
 ghost use Rattle.sha2.specs.Sha256.{sha256};

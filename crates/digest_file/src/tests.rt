@@ -1,4 +1,4 @@
-//! Digests of FIPS 180-4, and files that match and do not.
+//! Tests of digests and of checks of blocks.
 ghost use Rattle.std.specs.Prelude.{◌≡◌, ◌≢◌, IfOk, IfErr, length};
 ghost use Rattle.std.specs.List.{All};
 ghost use Rattle.sha2.specs.Sha256.{sha256};

@@ -2,4 +2,4 @@ pub mod Counts
 pub mod Mem
 pub mod Moved
 pub mod SinkRefusal
-pub mod SteadySink
+pub mod Steady

@@ -1,7 +1,7 @@
-//! Sources and sinks in memory.
-ghost use Rattle.std.specs.Prelude.{◌≡◌, ◌≤◌, ◌<◌, ◌↔◌, ℕ, [], Some, length, Contains, IsTrue, IsErr, IfOk, OnOk, OnErr, IsErrOf, if◌then◌else◌};
+//! Sources and sinks in memory whose calls can be told to fail.
+ghost use Rattle.std.specs.Prelude.{◌≡◌, ◌≤◌, ◌<◌, ◌↔◌, ℕ, [], Some, length, Contains, IsTrue, IsErr, IfOk, OnErr, IsErrOf, if◌then◌else◌};
 ghost use Rattle.std.specs.Io.KnownBytes.{ReadConsumes, WriteAppends};
-ghost use Rattle.swarm_io.specs.Counts.{Rose, one_more};
+ghost use Rattle.swarm_io.specs.Counts.{CountsWhere, Rose, one_more};
 
 use crate::{Failed, Sink, SinkRefusal, Source};
 use linear_spec::List;
@@ -106,6 +106,7 @@ impl Source for MemSource {
         ensures bound { IfOk result (λ n. n ≤ length buf.old) }
         ensures bytes { ReadConsumes (Some self.old.left) (Some self.new.left) result buf.new }
         ensures cause { OnErr result (Rose self.old.faults self.new.faults) }
+        ensures fault_count { CountsWhere (IsErr result) self.old.faults self.new.faults }
         ensures faults { self.old.faults ≤ self.new.faults }
 
         ensures told { IsErr result ↔ Contains self.old.fails self.old.calls }
@@ -113,7 +114,6 @@ impl Source for MemSource {
         ensures fails { self.new.fails ≡ self.old.fails }
         ensures at_most { IfOk result (λ n. n ≤ self.old.piece) }
         ensures same_piece { self.new.piece ≡ self.old.piece }
-        ensures no_fault { OnOk result (self.new.faults ≡ self.old.faults) }
     {
         if self.calls.next_fails() {
             return Err(Failed);
@@ -197,6 +197,8 @@ impl Sink for MemSink {
         ensures bytes { WriteAppends (Some self.old.held) (Some self.new.held) result piece.now }
         ensures failed { IsErrOf result SinkRefusal.Failed → Rose self.old.faults self.new.faults }
         ensures memory { IsErrOf result SinkRefusal.Memory → Rose self.old.wants self.new.wants }
+        ensures fault_count { CountsWhere (IsErrOf result SinkRefusal.Failed) self.old.faults self.new.faults }
+        ensures want_count { CountsWhere (IsErrOf result SinkRefusal.Memory) self.old.wants self.new.wants }
         ensures faults { self.old.faults ≤ self.new.faults }
         ensures wants { self.old.wants ≤ self.new.wants }
 
@@ -205,7 +207,6 @@ impl Sink for MemSink {
         ensures fails { self.new.fails ≡ self.old.fails }
         ensures at_most { IfOk result (λ n. n ≤ self.old.piece) }
         ensures same_piece { self.new.piece ≡ self.old.piece }
-        ensures no_fault { OnOk result (self.new.faults ≡ self.old.faults) }
     {
         if self.calls.next_fails() {
             return Err(SinkRefusal::Failed);

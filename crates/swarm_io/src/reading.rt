@@ -1,7 +1,7 @@
-//! Whole sources read, up to a limit.
+//! Reads of whole inputs.
 ghost use Rattle.std.specs.Prelude.{◌≡◌, ◌+◌, ◌-◌, ◌^◌, ◌<◌, ◌≤◌, length, IfOk, OnOk, IsErrOf};
 ghost use Rattle.std.specs.Io.KnownBytes.{Consumes, IsAtEnd};
-ghost use Rattle.swarm_io.specs.Counts.{Rose};
+ghost use Rattle.swarm_io.specs.Counts.{CountsWhere, Rose};
 ghost use Rattle.swarm_io.specs.Moved.{Takes, TakesAtMost};
 ghost use Rattle.swarm_io.specs.declared.reading.ReadAllError.TheVariants.{ReadFault, Memory as OutOfMemory};
 
@@ -63,6 +63,8 @@ pub fn read_all<I: Source>(
     ensures otherwise { ¬ IsErrOf result ReadAllError.TooLarge
         → TakesAtMost (I.remaining input.old) (I.remaining input.new) limit }
     ensures taken { TakesAtMost (I.remaining input.old) (I.remaining input.new) (limit + 1) }
+    ensures fault_count { CountsWhere (IsErrOf result ReadAllError.ReadFault)
+        (I.faults input.old) (I.faults input.new) }
     ensures faults { I.faults input.old ≤ I.faults input.new }
 {
     let mut bytes = List::new(alloc);

@@ -1,7 +1,7 @@
-//! Where bytes go.
+//! The trait of what bytes are written to.
 ghost use Rattle.std.specs.Prelude.{◌<◌, ◌≤◌, ℕ, List, Option, length, IfOk, IsErrOf};
 ghost use Rattle.std.specs.Io.KnownBytes.{WriteAppends};
-ghost use Rattle.swarm_io.specs.Counts.{Rose};
+ghost use Rattle.swarm_io.specs.Counts.{CountsWhere, Rose};
 
 /// Why a sink took nothing.
 #[derive(Clone, Copy, Debug, PartialEq, Eq)]
@@ -32,6 +32,10 @@ pub trait Sink {
             → Rose (faults self.old) (faults self.new) }
         ensures memory { IsErrOf result SinkRefusal.Memory
             → Rose (wants self.old) (wants self.new) }
+        ensures fault_count { CountsWhere (IsErrOf result SinkRefusal.Failed)
+            (faults self.old) (faults self.new) }
+        ensures want_count { CountsWhere (IsErrOf result SinkRefusal.Memory)
+            (wants self.old) (wants self.new) }
         ensures faults { faults self.old ≤ faults self.new }
         ensures wants { wants self.old ≤ wants self.new };
 }

@@ -1,7 +1,7 @@
-//! Where bytes come from.
-ghost use Rattle.std.specs.Prelude.{◌<◌, ◌≤◌, ℕ, List, Option, length, IfOk, OnErr};
+//! The trait of what bytes are read from.
+ghost use Rattle.std.specs.Prelude.{◌<◌, ◌≤◌, ℕ, List, Option, length, IfOk, IsErr, OnErr};
 ghost use Rattle.std.specs.Io.KnownBytes.{ReadConsumes};
-ghost use Rattle.swarm_io.specs.Counts.{Rose};
+ghost use Rattle.swarm_io.specs.Counts.{CountsWhere, Rose};
 
 /// A read failed.
 #[derive(Clone, Copy, Debug, PartialEq, Eq)]
@@ -21,5 +21,6 @@ pub trait Source {
         ensures bound { IfOk result (λ n. n ≤ length buf.old) }
         ensures bytes { ReadConsumes (remaining self.old) (remaining self.new) result buf.new }
         ensures cause { OnErr result (Rose (faults self.old) (faults self.new)) }
+        ensures fault_count { CountsWhere (IsErr result) (faults self.old) (faults self.new) }
         ensures faults { faults self.old ≤ faults self.new };
 }

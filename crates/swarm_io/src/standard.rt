@@ -1,6 +1,7 @@
-//! Sources and sinks over the standard streams.
-ghost use Rattle.std.specs.Prelude.{◌≡◌, ◌<◌, ◌≤◌, ◌+◌, ◌-◌, ◌^◌, min, ℕ, None, length, take, IfOk, IfErr, is_ok, if◌then◌else◌};
+//! Sources and sinks over readers and writers of std.
+ghost use Rattle.std.specs.Prelude.{◌≡◌, ◌<◌, ◌≤◌, ℕ, None, length, take, IfOk, IfErr, IsErr};
 ghost use Rattle.std.specs.Io.KnownBytes.{Appends, ReadConsumes};
+ghost use Rattle.swarm_io.specs.Counts.{CountsWhere};
 
 use crate::{Failed, Sink, SinkRefusal, Source};
 use std::io::{Read, Write};
@@ -85,8 +86,7 @@ impl<W: Write> Sink for StdSink<W> {
 fn read_once<R: Read>(reader: &mut R, faults: &mut u64, buf: &mut [u8]) -> Result<usize, Failed>
     ensures bound { IfOk result (λ n. n ≤ length buf.old) }
     ensures bytes { ReadConsumes (R.remaining reader.old) (R.remaining reader.new) result buf.new }
-    ensures counted { faults.new
-        ≡ (if is_ok result then faults.old else min (faults.old + 1) (2 ^ 64 - 1)) }
+    ensures fault_count { CountsWhere (IsErr result) faults.old faults.new }
     ensures faults { faults.old ≤ faults.new }
 {
     match reader.read(buf) {
@@ -108,8 +108,7 @@ fn write_once<W: Write>(
     ensures bytes { IfOk result (λ n.
         Appends (W.contents writer.old) (W.contents writer.new) (take n piece.now)) }
     ensures failed { IfErr result (λ refusal. refusal ≡ SinkRefusal.Failed) }
-    ensures counted { faults.new
-        ≡ (if is_ok result then faults.old else min (faults.old + 1) (2 ^ 64 - 1)) }
+    ensures fault_count { CountsWhere (IsErr result) faults.old faults.new }
     ensures faults { faults.old ≤ faults.new }
 {
     match writer.write(piece) {

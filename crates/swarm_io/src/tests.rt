@@ -1,4 +1,4 @@
-//! Whole sources read, and whole texts written.
+//! Tests of whole reads and writes, and of the steady forms.
 ghost use Rattle.std.specs.Prelude.{None};
 
 use super::*;
@@ -19,6 +19,54 @@ impl Source for Endless {
     fn read(&mut self, buf: &mut [u8]) -> Result<usize, Failed> {
         self.given = self.given.saturating_add(buf.len() as u64);
         Ok(buf.len())
+    }
+}
+
+// Takes one byte a write while there is room, and then refuses.
+#[derive(Drop)]
+struct Refusing {
+    room: usize,
+    refusal: SinkRefusal,
+    faults: u64,
+    wants: u64,
+}
+
+impl Sink for Refusing {
+    ghost contents = { λ _. None };
+
+    ghost faults = { λ s. s.faults };
+
+    ghost wants = { λ s. s.wants };
+
+    fn write(&mut self, _piece: &[u8]) -> Result<usize, SinkRefusal> {
+        if self.room > 0 {
+            self.room -= 1;
+            return Ok(1);
+        }
+        match self.refusal {
+            SinkRefusal::Failed => self.faults = self.faults.saturating_add(1),
+            SinkRefusal::Memory => self.wants = self.wants.saturating_add(1),
+        }
+        Err(self.refusal)
+    }
+}
+
+#[test]
+fn a_refusal_is_counted_once(rt: HostRuntime) {
+    for (refusal, error, faults, wants) in [
+        (SinkRefusal::Failed, WriteAllError::WriteFault, 1, 0),
+        (SinkRefusal::Memory, WriteAllError::Memory, 0, 1),
+    ] {
+        let mut sink = Refusing {
+            room: 1,
+            refusal,
+            faults: 0,
+            wants: 0,
+        };
+        let written = write_all_of(&mut sink, b"abc");
+        assert_eq!(rt; written.err(), Some(error));
+        assert_eq!(rt; sink.faults, faults);
+        assert_eq!(rt; sink.wants, wants);
     }
 }
 

@@ -1,7 +1,7 @@
-//! Whole texts written.
+//! Writes of all of some bytes.
 ghost use Rattle.std.specs.Prelude.{◌≡◌, ◌≤◌, length, OnOk, OnErr, IsErrOf};
 ghost use Rattle.std.specs.Io.KnownBytes.{Appends};
-ghost use Rattle.swarm_io.specs.Counts.{Rose};
+ghost use Rattle.swarm_io.specs.Counts.{CountsWhere, Rose};
 ghost use Rattle.swarm_io.specs.Moved.{AppendsPrefix};
 ghost use Rattle.swarm_io.specs.SinkRefusal.{write_error_of};
 
@@ -39,6 +39,10 @@ pub fn write_all_of<O: Sink>(output: &mut O, bytes: &[u8]) -> Result<(), WriteAl
         → Rose (O.faults output.old) (O.faults output.new) }
     ensures memory { IsErrOf result WriteAllError.Memory
         → Rose (O.wants output.old) (O.wants output.new) }
+    ensures fault_count { CountsWhere (IsErrOf result WriteAllError.WriteFault)
+        (O.faults output.old) (O.faults output.new) }
+    ensures want_count { CountsWhere (IsErrOf result WriteAllError.Memory)
+        (O.wants output.old) (O.wants output.new) }
     ensures faults { O.faults output.old ≤ O.faults output.new }
     ensures wants { O.wants output.old ≤ O.wants output.new }
 

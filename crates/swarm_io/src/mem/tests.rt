@@ -1,4 +1,4 @@
-//! Sources and sinks in memory that run out, and that are told to fail.
+//! Tests of the forms that can be told to fail.
 use super::*;
 use crate::{ReadAllError, WriteAllError, read_all, write_all_of};
 use std::test::Fail;
@@ -17,6 +17,7 @@ fn a_source_fails_at_each_read(rt: HostRuntime) -> Result<(), Fail> {
         let mut source = MemSource::new(list(alloc, b"hello")?, 1, list(alloc, &[at as u64])?);
         let failed = read_all(alloc, &mut source, 5);
         assert_eq!(rt; failed.err(), Some(ReadAllError::ReadFault));
+        assert_eq!(rt; source.calls.failed, 1);
         let rest = read_all(alloc, &mut source, 5)?;
         assert_eq!(rt; Some(rest.as_slice()), b"hello".get(at..));
     }
@@ -34,6 +35,8 @@ fn a_sink_fails_at_each_write(rt: HostRuntime) -> Result<(), Fail> {
         let mut sink = MemSink::new(alloc, 1, list(alloc, &[at as u64])?);
         let failed = write_all_of(&mut sink, b"abc");
         assert_eq!(rt; failed.err(), Some(WriteAllError::WriteFault));
+        assert_eq!(rt; sink.calls.failed, 1);
+        assert_eq!(rt; sink.wants, 0);
         assert_eq!(rt; Some(sink.bytes()), b"abc".get(..at));
     }
     let mut sink = MemSink::new(alloc, 1, list(alloc, &[3])?);

@@ -1,4 +1,4 @@
-//! Sources and sinks over readers and writers that fail.
+//! Tests of the forms over std.
 use super::*;
 use crate::{ReadAllError, WriteAllError, read_all, write_all_of};
 use std::io;
